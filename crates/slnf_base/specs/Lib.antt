@@ -1,0 +1,3 @@
+pub mod Prefix
+pub mod Numbers
+pub mod Equal
