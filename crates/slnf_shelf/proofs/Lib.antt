@@ -1,0 +1,4 @@
+pub mod Laws
+pub mod Fronts
+pub mod FaultLists
+pub mod FileLists
