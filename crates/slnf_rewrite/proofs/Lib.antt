@@ -1,0 +1,5 @@
+pub mod Words
+pub mod Spans
+pub mod Written
+pub mod Checks
+pub mod Laws
