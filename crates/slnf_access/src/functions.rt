@@ -1,0 +1,65 @@
+ghost use Rattle.std.specs.Prelude.{◌≡◌, ◌^◌, ◌<◌, ℕ, Option};
+ghost use Rattle.slnf_base.specs.declared.packets.Packet.{Packet};
+ghost use Rattle.slnf_base.specs.declared.packets.Reason.TheVariants.{Neither};
+ghost use Rattle.slnf_base.specs.declared.packets.Reason.{Reason};
+ghost use Rattle.slnf_base.specs.declared.packets.Verdict.{Verdict};
+ghost use Rattle.slnf_access.specs.declared.requests.Reply.{Reply};
+ghost use Rattle.slnf_access.specs.declared.requests.Request.{Request};
+ghost use Rattle.slnf_access.specs.declared.functions.Start.{Start};
+ghost use Rattle.slnf_access.specs.declared.functions.Start.TheVariants.{Over as StartOver};
+ghost use Rattle.slnf_access.specs.declared.functions.Step.{Step};
+ghost use Rattle.slnf_access.specs.Map.{CanReply};
+
+use crate::requests::{Reply, Request};
+use slnf_base::{Packet, Reason, Verdict};
+
+/// How a packet begins: with a first access, or dropped without one.
+#[derive(Clone, Copy, Debug, Drop)]
+pub enum Start<F> {
+    Go(F),
+    Over(Reason),
+}
+
+/// How a packet goes on after a reply: with another access, or with its verdict.
+#[derive(Clone, Copy, Debug, Drop)]
+pub enum Step<F> {
+    Go(F),
+    Over(Verdict),
+}
+
+/// A network function: how a packet's accesses follow from the replies, and with which verdict they end.
+/// None of its calls takes memory.
+pub trait Function {
+    /// A packet under way, between two accesses.
+    type Flight: Drop;
+
+    /// How a packet begins, by the incarnation and the packet's number.
+    ghost begins: { Self → ℕ → ℕ → Packet → Start Self.Flight };
+
+    /// The access that a flight makes next.
+    ghost asks: { Self → Self.Flight → Request };
+
+    /// How a flight goes on after a reply.
+    ghost goes: { Self → Self.Flight → Reply → Step Self.Flight };
+
+    /// The verdict that a flight has already decided, where it still has an access to make.
+    ghost decided: { Self → Self.Flight → Option Verdict };
+
+    /// The packet's first flight, or `Neither` where it has no direction of the function.
+    fn start(&self, incarnation: u64, number: u64, packet: &Packet) -> Start<Self::Flight>
+        requires incarnation { incarnation < 2 ^ 32 }
+        requires number { number < 2 ^ 32 }
+        ensures { result ≡ begins self.now incarnation number packet.now };
+
+    /// The access that the flight makes next.
+    fn next(&self, flight: &Self::Flight) -> Request
+        ensures { result ≡ asks self.now flight.now };
+
+    /// The flight after the reply, or its verdict.
+    fn after(&self, flight: Self::Flight, reply: Reply) -> Step<Self::Flight>
+        requires { CanReply (asks self.now flight) reply }
+        ensures { result ≡ goes self.now flight reply };
+
+    /// A packet is refused for want of a direction alone.
+    ghost refuses: { (function : Self) (incarnation number : ℕ) (packet : Packet) (reason : Reason) → begins function incarnation number packet ≡ StartOver reason → reason ≡ Neither };
+}

@@ -1,0 +1,198 @@
+-- The laws of cuts and orders that crates above cite.
+use Rattle.std.proofs.Common.{◌≡◌, ℕ, zero, suc, ◌+◌, ◌<◌, ◌≤◌, ◌==◌, Bool, true, false, if◌then◌else◌, ◌⊎◌, Option, Some, None, List, [], ◌∷◌, length, get_or, take, refl, sym, ap, ◌∙◌, inl, inr, arith, add-one, ne_eqb}
+use Rattle.std.specs.Prelude.{All}
+use Rattle.std.proofs.lemmas.Bool.{cases_lt}
+use Rattle.std.proofs.lemmas.Bool.Decides.{nat_tests}
+use Rattle.std.proofs.lemmas.List.{get_or-take, length-take-le, take_more, get_or_default}
+use Rattle.std.proofs.lemmas.List.Quantifiers.{all_pairs_push}
+use Rattle.std.proofs.lemmas.List.Sorted.{sorted_far, ranks_by}
+use Rattle.std.proofs.lemmas.Map.Keys.{IsDistinct-from_apart, IsDistinct-IsPermutation, apart_from_distinct}
+use Rattle.std.proofs.lemmas.Cmp.{then_total, on_total, nat_cmp_total}
+use Rattle.std.specs.Cmp.{IsTotalOrder}
+use Rattle.std.specs.List.Sorted.{IsPermutation, IsSortedByKey}
+use Rattle.std.specs.Ordering.{nat_cmp, ordering_then, is_lt}
+use Rattle.std.specs.declared.cmp.Ordering.{Ordering}
+use Rattle.slnf_access.specs.declared.requests.Ask.{Ask}
+use Rattle.slnf_access.specs.declared.requests.Key.{Key}
+use Rattle.slnf_batch.specs.Order.{shard_of, GoesBefore, Ascends, ItemsDiffer}
+use Rattle.slnf_batch.specs.Cut.{Differ, KeysDiffer, StandsAmong, number_of, numbers_of, is_among, with_key, cut_after, cut_of}
+
+-- a first key that isn't this one differs from it
+new_differs : (first : Option Key) (key : Key) → ¬ (first ≡ Some key) → Differ first (Some key)
+new_differs None key h = tt
+new_differs (Some other) key h = λ e. h (ap (λ (x : ℕ). Some (record { 0 = x })) e)
+
+-- and this one doesn't
+same_differs : (first other : Option Key) (key : Key) → first ≡ Some key → other ≡ Some key → ¬ Differ first other
+same_differs None other key e o h = cc
+same_differs (Some a) None key e o h = cc
+same_differs (Some a) (Some b) key e o h =
+    let number : Option Key → ℕ = λ x. elim x [ None ↦ 0 | Some k ↦ k.0 ] in
+    h (ap number e ∙ sym (ap number o))
+
+none_differs : (first : Option Key) → Differ first None
+none_differs None = tt
+none_differs (Some key) = tt
+
+-- a first key differs from each that it doesn't stand among
+each_differs : (first : Option Key) (firsts : List (Option Key)) → ¬ StandsAmong first firsts → (k : ℕ) (d : Option Key) → k < length firsts → Differ (get_or firsts k d) first
+each_differs None firsts h k d inside = none_differs _
+each_differs (Some key) firsts h k d inside =
+    new_differs _ key (λ e. h (k, inside, get_or_default firsts k (Some key) d inside ∙ e))
+
+-- one first key more keeps them apart where it stands among none before it
+pub KeysDiffer-more : (firsts : List (Option Key)) (place : ℕ) (first : Option Key) → place < length firsts → first ≡ get_or firsts place first → ¬ StandsAmong first (take place firsts) → KeysDiffer (take place firsts) → KeysDiffer (take (place + 1) firsts)
+KeysDiffer-more firsts place first inside at new apart =
+    rw (take_more firsts place first inside, ← at) (all_pairs_push Differ (take place firsts) first apart (each_differs first (take place firsts) new))
+
+-- no longer prefix keeps them apart where the first key at its end stands before it
+pub repeat_ends : (firsts : List (Option Key)) (place : ℕ) (first : Option Key) → place < length firsts → first ≡ get_or firsts place first → StandsAmong first (take place firsts) → (count : ℕ) → count ≤ length firsts → KeysDiffer (take count firsts) → count ≤ place
+repeat_ends firsts place None inside at stands count within apart = absurd stands
+repeat_ends firsts place (Some key) inside at stands count within apart =
+    elim (cases_lt place count) [
+      | inl longer ↦
+          let k = stands.0 in
+          let e : length (take place firsts) ≡ place = length-take-le place firsts (omega arith) in
+          let f : length (take count firsts) ≡ count = length-take-le count firsts within in
+          let before : k < place = omega (arith, stands.1) in
+          let early : get_or (take count firsts) k (Some key) ≡ Some key =
+          get_or-take count firsts k (Some key) (omega arith) ∙ sym (get_or-take place firsts k (Some key) before) ∙ stands.2 in
+          let late : get_or (take count firsts) place (Some key) ≡ Some key =
+          get_or-take count firsts place (Some key) longer ∙ sym at in
+          absurd (same_differs _ _ key early late (apart k place (Some key) before (omega arith)))
+      | inr short ↦ short
+    ]
+
+-- by recursion: each first key stands neither among these keys nor before
+Apart : List ℕ → List (Option Key) → Type 0
+Apart keys [] = Unit {0}
+Apart keys (first ∷ firsts) = (is_among (number_of first) keys ≡ false) × Apart (with_key (number_of first) keys) firsts
+
+cut_apart : (keys : List ℕ) (firsts : List (Option Key)) → Apart keys (take (cut_after keys (numbers_of firsts)) firsts)
+unfolding Apart
+cut_apart keys [] = tt
+cut_apart keys (first ∷ firsts) = by_test (is_among (number_of first) keys) refl (cut_apart (with_key (number_of first) keys) firsts)
+  where
+    by_test : (b : Bool) → is_among (number_of first) keys ≡ b → Apart (with_key (number_of first) keys) (take (cut_after (with_key (number_of first) keys) (numbers_of firsts)) firsts) → Apart keys (take (if b then 0 else cut_after (with_key (number_of first) keys) (numbers_of firsts) + 1) (first ∷ firsts))
+    by_test true e rest = tt
+    by_test false e rest = rw add-one (e, rest)
+
+cut_longest : (keys : List ℕ) (firsts : List (Option Key)) (count : ℕ) → count ≤ length firsts → Apart keys (take count firsts) → count ≤ cut_after keys (numbers_of firsts)
+unfolding Apart
+cut_longest keys [] count within apart = within
+cut_longest keys (first ∷ firsts) zero within apart = omega arith
+cut_longest keys (first ∷ firsts) (suc count) within apart =
+    let rest = cut_longest (with_key (number_of first) keys) firsts count (omega arith) apart.1 in
+    rw apart.0 (omega arith)
+
+-- a first key is new to these keys and another where it is new to these and differs from the other
+still_new : (first other : Option Key) (keys : List ℕ) → is_among (number_of other) keys ≡ false → Differ first other → is_among (number_of other) (with_key (number_of first) keys) ≡ false
+still_new None None keys h d = refl
+still_new None (Some b) keys h d = h
+still_new (Some a) None keys h d = refl
+still_new (Some a) (Some b) keys h d = grind (arith, nat_tests)
+
+was_new : (first other : Option Key) (keys : List ℕ) → is_among (number_of other) (with_key (number_of first) keys) ≡ false → (is_among (number_of other) keys ≡ false) × Differ first other
+was_new None None keys h = (refl, tt)
+was_new None (Some b) keys h = (h, tt)
+was_new (Some a) None keys h = (refl, tt)
+was_new (Some a) (Some b) keys h = (grind (arith, nat_tests), λ e. grind (arith, nat_tests))
+
+abbrev AllNew : List ℕ → List (Option Key) → Type 0
+AllNew keys firsts = All (λ first. is_among (number_of first) keys ≡ false) firsts
+
+apart_from : (keys : List ℕ) (firsts : List (Option Key)) → AllNew keys firsts → KeysDiffer firsts → Apart keys firsts
+unfolding Apart
+apart_from keys [] new differ = tt
+apart_from keys (first ∷ firsts) new differ = (
+  new 0 None (omega arith),
+  apart_from (with_key (number_of first) keys) firsts
+      (λ k d h. still_new first _ keys (new (suc k) d (omega arith)) (differ 0 (suc k) d (omega arith) (omega arith)))
+      (λ i j d before h. differ (suc i) (suc j) d (omega arith) (omega arith)),
+)
+
+apart_to : (keys : List ℕ) (firsts : List (Option Key)) → Apart keys firsts → AllNew keys firsts × KeysDiffer firsts
+unfolding Apart
+apart_to keys [] h = (λ k d inside. absurd (omega arith), λ i j d before inside. absurd (omega arith))
+apart_to keys (first ∷ firsts) h =
+    let rest = apart_to (with_key (number_of first) keys) firsts h.1 in
+    (all_new rest.0, all_differ rest.0 rest.1)
+  where
+    all_new : AllNew (with_key (number_of first) keys) firsts → AllNew keys (first ∷ firsts)
+    all_new new zero d inside = h.0
+    all_new new (suc k) d inside = (was_new first _ keys (new k d (omega arith))).0
+
+    all_differ : AllNew (with_key (number_of first) keys) firsts → KeysDiffer firsts → KeysDiffer (first ∷ firsts)
+    all_differ new differ zero zero d before inside = absurd (omega arith)
+    all_differ new differ zero (suc j) d before inside = (was_new first _ keys (new j d (omega arith))).1
+    all_differ new differ (suc i) zero d before inside = absurd (omega arith)
+    all_differ new differ (suc i) (suc j) d before inside = differ i j d (omega arith) (omega arith)
+
+new_to_none : (first : Option Key) → is_among (number_of first) [] ≡ false
+new_to_none None = refl
+new_to_none (Some key) = refl
+
+-- no key stands twice in a cut
+pub cut_of-differ : (firsts : List (Option Key)) → KeysDiffer (take (cut_of (numbers_of firsts)) firsts)
+cut_of-differ firsts = (apart_to [] _ (cut_apart [] firsts)).1
+
+-- and none is longer
+pub cut_of-longest : (firsts : List (Option Key)) (count : ℕ) → count ≤ length firsts → KeysDiffer (take count firsts) → count ≤ cut_of (numbers_of firsts)
+cut_of-longest firsts count within differ = cut_longest [] firsts count within (apart_from [] _ (λ k d h. new_to_none _) differ)
+
+cut_after-within : (keys : List ℕ) (firsts : List (Option Key)) → cut_after keys (numbers_of firsts) ≤ length firsts
+cut_after-within keys [] = omega arith
+cut_after-within keys (first ∷ firsts) = by_test (is_among (number_of first) keys) (cut_after-within (with_key (number_of first) keys) firsts)
+  where
+    by_test : (b : Bool) → cut_after (with_key (number_of first) keys) (numbers_of firsts) ≤ length firsts → (if b then 0 else cut_after (with_key (number_of first) keys) (numbers_of firsts) + 1) ≤ suc (length firsts)
+    by_test true h = omega arith
+    by_test false h = omega arith
+
+pub cut_of-within : (firsts : List (Option Key)) → cut_of (numbers_of firsts) ≤ length firsts
+cut_of-within firsts = cut_after-within [] firsts
+
+-- the longest prefix in which no key stands twice is the cut
+pub cut_of-is : (firsts : List (Option Key)) (n : ℕ) → n ≤ length firsts → KeysDiffer (take n firsts) → ((count : ℕ) → count ≤ length firsts → KeysDiffer (take count firsts) → count ≤ n) → n ≡ cut_of (numbers_of firsts)
+cut_of-is firsts n within differ longest =
+    let below = cut_of-longest firsts n within differ in
+    let above = longest (cut_of (numbers_of firsts)) (cut_of-within firsts) (cut_of-differ firsts) in
+    omega arith
+
+-- the order of pairs of numbers
+abbrev pub turn_cmp : ℕ × ℕ → ℕ × ℕ → Ordering
+turn_cmp a b = ordering_then (nat_cmp a.0 b.0) (nat_cmp a.1 b.1)
+
+turn_total : IsTotalOrder turn_cmp
+turn_total = then_total (on_total (λ (p : ℕ × ℕ). p.0) nat_cmp_total) (on_total (λ (p : ℕ × ℕ). p.1) nat_cmp_total)
+
+-- a pair that isn't behind another of another second number comes before it
+not_behind : (s t m n : ℕ) → is_lt (turn_cmp (t, n) (s, m)) ≡ false → (m == n) ≡ false → (s < t) ⊎ ((s ≡ t) × (m < n))
+not_behind s t m n order items = grind (arith, nat_tests)
+
+-- asks of distinct items in the order of a sort by (shard, item) ascend
+pub sorted_ascends : (shards : ℕ) (xs ys : List Ask) → IsPermutation xs ys → ItemsDiffer xs → IsSortedByKey (λ ask. (shard_of shards ask, ask.item)) turn_cmp ys → Ascends shards ys
+sorted_ascends shards xs ys same differ sorted = λ i j d before inside.
+    let key : Ask → ℕ × ℕ = λ ask. (shard_of shards ask, ask.item) in
+    let alike : Ask → Ask → Bool = λ a b. a.item == b.item in
+    let apart = IsDistinct-from_apart alike xs (λ i j d before inside. ne_eqb _ _ (differ i j d before inside)) in
+    let distinct = IsDistinct-IsPermutation alike (λ a b. grind (arith, nat_tests)) xs ys same apart in
+    let items = apart_from_distinct alike ys i j d distinct before inside in
+    let order = sorted_far _ (ranks_by turn_total key) ys sorted i j d (omega arith) inside in
+    not_behind _ _ _ _ order items
+
+-- the first ask comes before all others, and these ascend
+pub Ascends-head : (shards : ℕ) (ask : Ask) (asks : List Ask) → Ascends shards (ask ∷ asks) → All (GoesBefore shards ask) asks
+Ascends-head shards ask asks h = λ k d inside. h 0 (suc k) d (omega arith) (omega arith)
+
+pub Ascends-tail : (shards : ℕ) (ask : Ask) (asks : List Ask) → Ascends shards (ask ∷ asks) → Ascends shards asks
+Ascends-tail shards ask asks h = λ i j d before inside. h (suc i) (suc j) d (omega arith) (omega arith)
+
+pub ItemsDiffer-nil : ItemsDiffer []
+ItemsDiffer-nil i j d before inside = absurd (omega arith)
+
+-- no item stands twice where one ask more has another item than all of these
+pub ItemsDiffer-cons : (ask : Ask) (asks : List Ask) → All (λ other. ¬ (ask.item ≡ other.item)) asks → ItemsDiffer asks → ItemsDiffer (ask ∷ asks)
+ItemsDiffer-cons ask asks new differ zero zero d before inside = absurd (omega arith)
+ItemsDiffer-cons ask asks new differ zero (suc j) d before inside = new j d (omega arith)
+ItemsDiffer-cons ask asks new differ (suc i) zero d before inside = absurd (omega arith)
+ItemsDiffer-cons ask asks new differ (suc i) (suc j) d before inside = differ i j d (omega arith) (omega arith)

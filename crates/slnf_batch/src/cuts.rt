@@ -1,0 +1,46 @@
+ghost use Rattle.std.specs.Prelude.{◌≡◌, ◌≤◌, ◌↔◌, ℕ, IsTrue, length, take};
+ghost use Rattle.slnf_batch.specs.Cut.{KeysDiffer, StandsAmong, numbers_of, cut_of};
+
+use slnf_access::Key;
+
+/// How many of the next packets, which have these first keys, a batch can take: the length of the longest
+/// prefix in which no key stands twice. It takes no memory.
+pub fn cut(firsts: &[Option<Key>]) -> usize
+    requires few { length firsts.now ≤ 32 }
+    ensures within { result ≤ length firsts.now }
+    ensures differ { KeysDiffer (take result firsts.now) }
+    ensures longest { (count : ℕ) → count ≤ length firsts.now → KeysDiffer (take count firsts.now) → count ≤ result }
+    ensures computed { result ≡ cut_of (numbers_of firsts.now) }
+{
+    for (place, first) in firsts.iter().enumerate() {
+        if is_repeated(*first, &firsts[..place]) {
+            return place;
+        }
+    }
+    firsts.len()
+}
+
+/// Whether a first key stands among these.
+fn is_repeated(first: Option<Key>, earlier: &[Option<Key>]) -> bool
+    ensures { IsTrue result ↔ StandsAmong first earlier.now }
+{
+    first.is_some() && earlier.contains(&first)
+}
+
+#[cfg(test)]
+mod tests {
+    use super::*;
+
+    const FIRST: Option<Key> = Some(Key(0x0411_0000_0000_0000_0000_c000_0201_0fa0));
+
+    const SECOND: Option<Key> = Some(Key(0x0411_0000_0000_0000_0000_c000_0201_0fa1));
+
+    #[test]
+    fn a_batch_has_no_key_twice(rt: HostRuntime) {
+        assert_eq!(rt; cut(&[FIRST, SECOND, FIRST]), 2);
+        assert_eq!(rt; cut(&[FIRST, FIRST, SECOND]), 1);
+        assert_eq!(rt; cut(&[FIRST, None, SECOND, None]), 4);
+        assert_eq!(rt; cut(&[None, FIRST, None, SECOND, SECOND]), 4);
+        assert_eq!(rt; cut(&[]), 0);
+    }
+}

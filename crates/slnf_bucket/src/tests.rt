@@ -1,0 +1,73 @@
+use crate::{Bucket, BucketError};
+use slnf_access::{Key, Reply, Request, Value};
+use std::test::Fail;
+
+const CLIENT: Key = Key(0x0411_0000_0000_0000_0000_c000_0201_0fa0);
+
+const BACKEND: Value = Value(0x0a01_0001_0035);
+
+const LAST: u64 = (1 << 62) - 1;
+
+#[test]
+fn the_last_stamp_is_spent(rt: HostRuntime) -> Result<(), Fail> {
+    let mut bucket = Bucket::make(rt.alloc(), 0, 1)?;
+    let read = Request::Read { key: CLIENT };
+    assert_eq!(rt;
+        bucket.access(0, 0, LAST, read),
+        Err(BucketError::StampsSpent(LAST))
+    );
+    assert_eq!(rt; bucket.clock(), 0);
+    assert!(rt; bucket.into_history().is_empty());
+    Ok(())
+}
+
+#[test]
+fn the_last_stamp_is_given(rt: HostRuntime) -> Result<(), Fail> {
+    let mut bucket = Bucket::make(rt.alloc(), 0, 1)?;
+    let put = Request::PutIfAbsent {
+        key: CLIENT,
+        value: BACKEND,
+    };
+    assert_eq!(rt;
+        bucket.access(0, 0, LAST - 1, put),
+        Ok((Reply::Done(LAST), LAST))
+    );
+    assert_eq!(rt; bucket.clock(), LAST);
+    Ok(())
+}
+
+#[test]
+fn an_access_sees_those_before_it(rt: HostRuntime) -> Result<(), Fail> {
+    let mut bucket = Bucket::make(rt.alloc(), 0, 1)?;
+    bucket.reserve(4)?;
+    let read = Request::Read { key: CLIENT };
+    let put = Request::PutIfAbsent {
+        key: CLIENT,
+        value: BACKEND,
+    };
+    let delete = Request::DeleteIf {
+        key: CLIENT,
+        version: 8,
+    };
+    assert_eq!(rt; bucket.access(0, 0, 0, read), Ok((Reply::Absent, 1)));
+    assert_eq!(rt; bucket.access(0, 0, 7, put), Ok((Reply::Done(8), 8)));
+    assert_eq!(rt;
+        bucket.access(1, 5, 0, read),
+        Ok((Reply::Found(BACKEND, 8), 9))
+    );
+    assert_eq!(rt; bucket.access(1, 5, 9, delete), Ok((Reply::Done(10), 10)));
+    let history = bucket.into_history();
+    assert_eq!(rt; history.len(), 4);
+    assert_eq!(rt;
+        (
+            history[2].stamp,
+            history[2].shard,
+            history[2].incarnation,
+            history[2].item
+        ),
+        (9, 0, 1, 5)
+    );
+    assert_eq!(rt; history[2].request, read);
+    assert_eq!(rt; history[2].reply, Reply::Found(BACKEND, 8));
+    Ok(())
+}

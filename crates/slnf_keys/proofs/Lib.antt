@@ -1,0 +1,3 @@
+mod Conns
+mod Layouts
+pub mod Laws

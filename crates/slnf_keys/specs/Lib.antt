@@ -1,0 +1,4 @@
+pub mod Flag
+pub mod Layout
+pub mod Keys
+pub mod Values
