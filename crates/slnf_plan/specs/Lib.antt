@@ -1,0 +1,10 @@
+pub mod Errors
+pub mod Paths
+pub mod Plain
+pub mod Plans
+pub mod Ranges
+pub mod Reading
+pub mod Refusals
+pub mod Tables
+pub mod Texts
+pub mod Values
