@@ -1,0 +1,14 @@
+pub mod Setting
+pub mod Parts
+pub mod Run
+pub mod Verdicts
+pub mod Places
+pub mod Scheduled
+pub mod OneBox
+pub mod Ranges
+pub mod PlanSetting
+pub mod Keeps
+pub mod Pins
+pub mod Captures
+pub mod Output
+pub mod Functions

@@ -1,0 +1,72 @@
+-- A list of entries is a run of a setting: the six rules.
+use Rattle.std.specs.Prelude.{◌≡◌, ◌⊎◌, ℕ, ◌%◌, ◌^◌, ◌<◌, ◌≤◌, IsTrue, Some, None, List, [], ◌∷◌, ◌++◌, length, slice_get}
+use Rattle.slnf_access.specs.declared.requests.Entry.{Entry}
+use Rattle.slnf_access.specs.Map.{key_of, IsLegal}
+use Rattle.slnf_access.specs.Machines.{IsPath, HasEnded}
+use Rattle.slnf_flight.specs.Setting.{Actor, Setting, era_of}
+use Rattle.slnf_flight.specs.Parts.{part_of, of_item, stand_of, Offer, batch_of, is_stopped, Post, posts_of, offers_at}
+
+-- the one entry's event comes before the other's, by (stamp, shard)
+abbrev pub Precedes : Entry → Entry → Type 0
+Precedes e f = (e.stamp < f.stamp) ⊎ ((e.stamp ≡ f.stamp) × (e.shard < f.shard))
+
+-- the list is in strict order of (stamp, shard)
+abbrev pub InOrder : List Entry → Type 0
+InOrder [] = Unit {0}
+InOrder (e ∷ []) = Unit {0}
+InOrder (e ∷ f ∷ es) = Precedes e f × InOrder (f ∷ es)
+
+-- each entry has this
+abbrev pub Each : (Entry → Type 0) → List Entry → Type 0
+Each P [] = Unit {0}
+Each P (e ∷ es) = P e × Each P es
+
+-- the entry's stamp is one that the texts have, and its shard is that of its key
+pub record IsInShard (shards : ℕ) (e : Entry) : Type 0 where
+  pub from_one : 1 ≤ e.stamp
+  pub below_end : e.stamp < 2 ^ 62
+  pub shard : e.shard ≡ key_of e.request % shards
+
+-- each of these offers has ended after these entries
+abbrev pub AllEnded : {F : Type 0} → Setting F → ℕ → List Entry → List Offer → Type 0
+AllEnded s incarnation es [] = Unit {0}
+AllEnded s incarnation es (offer ∷ offers) = HasEnded (stand_of s incarnation offer.item es) × AllEnded s incarnation es offers
+
+-- the actor's part is shorter than its stop, if it has one
+abbrev pub IsBelowStop : Actor → List Entry → Type 0
+IsBelowStop actor part = elim (actor.stop) [ None ↦ Unit {0} | Some stop ↦ length part < stop ]
+
+-- an actor has done its work: it is stopped, or it is below its stop and each of its items has a whole path
+abbrev pub IsDone : {F : Type 0} → Setting F → List Entry → ℕ → Post → Type 0
+IsDone s es incarnation post =
+    IsTrue (is_stopped post.actor (part_of incarnation es))
+    ⊎ (IsBelowStop post.actor (part_of incarnation es) × AllEnded s incarnation es (offers_at s incarnation post))
+
+-- the item is one of these offers
+abbrev pub IsOffered : ℕ → List Offer → Type 0
+IsOffered item [] = ⊥
+IsOffered item (offer ∷ offers) = (offer.item ≡ item) ⊎ IsOffered item offers
+
+-- each offer of a batch before this one has ended after these entries
+abbrev pub EarlierEnded : {F : Type 0} → Setting F → ℕ → List Entry → ℕ → List Offer → Type 0
+EarlierEnded s incarnation es batch [] = Unit {0}
+EarlierEnded s incarnation es batch (offer ∷ offers) =
+    (offer.batch < batch → HasEnded (stand_of s incarnation offer.item es)) × EarlierEnded s incarnation es batch offers
+
+pub record IsRun {F : Type 0} (s : Setting F) (j : List Entry) : Type 0 where
+  -- 1. The entries are in strict order of (stamp, shard), with stamps from 1 to 2^62 - 1 in the shards of their keys,
+  -- and each reply is the map's.
+  pub in_order : InOrder j
+  pub in_shards : Each (IsInShard s.shards) j
+  pub legal : IsLegal j
+  -- 2. Each entry is of an actor, and the entries of each actor and item are a path of its machine.
+  pub of_actors : Each (λ e. e.incarnation < length (posts_of s j)) j
+  pub paths : (incarnation item : ℕ) → IsPath (s.machine incarnation) (s.begins incarnation item) (of_item item (part_of incarnation j))
+  -- 3. Each actor is stopped, or is below its stop and has whole paths of all its items.
+  pub done : (incarnation : ℕ) (post : Post) → slice_get (posts_of s j) incarnation ≡ Some post → IsDone s j incarnation post
+  -- 4. All entries of an epoch stand before those of a later one.
+  pub by_epoch : (before middle later : List Entry) (e f : Entry) → j ≡ before ++ e ∷ (middle ++ f ∷ later) → era_of s.eras e.incarnation ≤ era_of s.eras f.incarnation
+  -- 5 and 6. An actor's items are those that it is offered, packets of its batches or a sweep's ports, and an entry of a
+  -- batch stands only after whole paths of all items of the batches before. A sweep's ports are a batch each.
+  pub offered : (incarnation : ℕ) (post : Post) → slice_get (posts_of s j) incarnation ≡ Some post → Each (λ e. IsOffered e.item (offers_at s incarnation post)) (part_of incarnation j)
+  pub by_batch : (before later : List Entry) (e : Entry) (post : Post) → j ≡ before ++ e ∷ later → slice_get (posts_of s j) e.incarnation ≡ Some post → EarlierEnded s e.incarnation before (batch_of e.item (offers_at s e.incarnation post)) (offers_at s e.incarnation post)

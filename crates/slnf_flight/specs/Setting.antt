@@ -1,0 +1,42 @@
+-- A setting: what a plan and its captures fix of a run. All definitions of runs speak of settings, and of no
+-- plan's format. A flight is of the type F.
+use Rattle.std.specs.Prelude.{ℕ, ◌-◌, ◌+◌, Bool, false, ◌==◌, nat_lt, if◌then◌else◌, Option, Some, None, List, [], ◌∷◌, length}
+use Rattle.slnf_base.specs.declared.packets.Verdict.{Verdict}
+use Rattle.slnf_access.specs.Machines.{Machine, Stand}
+
+-- An actor of an epoch: an instance of a lane, or the sweep, which has none. An instance may have a quota of
+-- packets, and each may stop after so many accesses.
+pub record Actor : Type 0 where
+  pub lane : Option ℕ
+  pub quota : Option ℕ
+  pub stop : Option ℕ
+
+-- An epoch: its actors, the sweep last, and the schedule of their turns, by their numbers in the epoch.
+pub record Era : Type 0 where
+  pub actors : List Actor
+  pub schedule : List ℕ
+
+-- The incarnations of a setting are numbered over all epochs in order.
+pub record Setting (F : Type 0) : Type 0 where
+  -- how many shards there are, how many packets a batch has at most, how many packets each lane has, and how many
+  -- ports a sweep goes over
+  pub shards : ℕ
+  pub batch : ℕ
+  pub lanes : List ℕ
+  pub ports : ℕ
+  pub eras : List Era
+  -- the machine of an incarnation, and how an incarnation's item begins
+  pub machine : ℕ → Machine F
+  pub begins : ℕ → ℕ → Stand F
+  -- whether a packet that begins so, and is decided so, has its place at its first entry
+  pub looks_back : Stand F → Verdict → Bool
+
+-- the actor works on this lane
+abbrev pub is_on : ℕ → Actor → Bool
+is_on lane actor = elim (actor.lane) [ None ↦ false | Some own ↦ own == lane ]
+
+-- the epoch of an incarnation
+abbrev pub era_of : List Era → ℕ → ℕ
+era_of [] incarnation = 0
+era_of (era ∷ eras) incarnation =
+    if nat_lt incarnation (length era.actors) then 0 else era_of eras (incarnation - length era.actors) + 1
