@@ -1,0 +1,4 @@
+pub mod Words
+pub mod Journal
+pub mod Verdicts
+pub mod Summary
