@@ -1,0 +1,11 @@
+pub mod Words
+pub mod Names
+pub mod Form
+pub mod Answer
+pub mod Effects
+pub mod Written
+pub mod Codes
+pub mod Refused
+pub mod Inputs
+pub mod Texts
+pub mod Outcome

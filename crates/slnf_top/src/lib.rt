@@ -1,0 +1,16 @@
+//! The commands: files in, files out, and a status.
+#![tactic(auto)]
+
+mod commands;
+mod forms;
+mod inputs;
+mod names;
+mod outputs;
+mod statuses;
+mod steps;
+#[cfg(test)]
+mod tests;
+mod words;
+
+pub use commands::top_plain;
+pub use statuses::Status;

@@ -1,0 +1,101 @@
+ghost use Rattle.std.specs.Prelude.{◌≡◌};
+ghost use Rattle.slnf_top.specs.declared.statuses.Status.TheVariants.{NoMemory as WantsMemory};
+
+use slnf_base::NoMemory;
+use slnf_pcap::PcapError;
+use std::alloc::{AllocError, AllocFailed};
+use std::fmt;
+
+/// How a command ended. File 0 of `NotBuilt` is the plan, and file 1 the capture.
+#[derive(Clone, Copy, Debug, PartialEq, Eq)]
+pub enum Status {
+    /// Every packet has a verdict.
+    Ok,
+    /// The words are of no form.
+    Usage,
+    /// The lane's file is no capture, by the error's rule.
+    CaptureBad { lane: u32, error: PcapError },
+    /// A file couldn't be read.
+    ReadFault,
+    /// A file couldn't be written.
+    WriteFault,
+    /// Memory was wanting.
+    NoMemory,
+    /// The file asks for what isn't built yet.
+    NotBuilt { file: u32 },
+}
+
+impl Status {
+    ghost use Rattle.slnf_top.specs.Codes.{code_of};
+
+    /// The exit status of the program.
+    pub fn code(&self) -> u8
+        ensures { result ≡ code_of self.now }
+    {
+        match self {
+            Status::Ok => 0,
+            Status::Usage => 2,
+            Status::CaptureBad { lane: _, error: _ } => 4,
+            Status::ReadFault => 5,
+            Status::WriteFault => 6,
+            Status::NoMemory => 7,
+            Status::NotBuilt { file: _ } => 11,
+        }
+    }
+}
+
+impl From<NoMemory> for Status {
+    ghost from_gives = { λ _ status. status ≡ WantsMemory };
+
+    fn from(_error: NoMemory) -> Status {
+        Status::NoMemory
+    }
+}
+
+impl From<AllocError> for Status {
+    ghost from_gives = { λ _ status. status ≡ WantsMemory };
+
+    fn from(_error: AllocError) -> Status {
+        Status::NoMemory
+    }
+}
+
+impl<T: Drop> From<AllocFailed<T>> for Status {
+    ghost from_gives = { λ _ status. status ≡ WantsMemory };
+
+    fn from(_error: AllocFailed<T>) -> Status {
+        Status::NoMemory
+    }
+}
+
+/// The number of a capture's error, 1 to 7 in the order in which they are tried. Want of memory has none.
+fn error_number(error: &PcapError) -> u8 {
+    match error {
+        PcapError::ShortHeader => 1,
+        PcapError::BadMagic => 2,
+        PcapError::BadVersion => 3,
+        PcapError::LinkType(_) => 4,
+        PcapError::TornRecord(_) => 5,
+        PcapError::OverSnap(_) => 6,
+        PcapError::TooMany => 7,
+        PcapError::NoMemory => 0,
+    }
+}
+
+/// The program's fault line, without the program's name.
+impl fmt::Display for Status {
+    fn fmt<W: fmt::Write>(&self, f: &mut fmt::Formatter<W>) -> fmt::Result {
+        match self {
+            Status::Ok => write!(f, "ok"),
+            Status::Usage => write!(f, "usage: step PLAN OUT IN"),
+            Status::CaptureBad { lane, error } => {
+                let number = error_number(error);
+                write!(f, "capture of lane {lane}: error {number}")
+            }
+            Status::ReadFault => write!(f, "read fault"),
+            Status::WriteFault => write!(f, "write fault"),
+            Status::NoMemory => write!(f, "no memory"),
+            Status::NotBuilt { file: _ } => write!(f, "not built yet"),
+        }
+    }
+}
