@@ -21,7 +21,10 @@ const HIGHEST: [u8; 32] = [
 
 // The datagram with another byte at a place.
 fn with_byte(place: usize, byte: u8) -> [u8; 28] {
-    let mut frame = DATAGRAM;
+    changed(DATAGRAM, place, byte)
+}
+
+fn changed(mut frame: [u8; 28], place: usize, byte: u8) -> [u8; 28] {
     if place < frame.len() {
         frame[place] = byte;
     }
@@ -121,7 +124,7 @@ fn a_segment_has_flags(rt: HostRuntime) {
 
 #[test]
 fn the_first_reason_is_told(rt: HostRuntime) {
-    let changed = [
+    let reasons = [
         (0, 0x65, Reason::NotIpv4),
         (6, 0x20, Reason::Fragment),
         (7, 0x01, Reason::Fragment),
@@ -131,8 +134,21 @@ fn the_first_reason_is_told(rt: HostRuntime) {
         (9, 6, Reason::Short),
         (9, 1, Reason::Protocol),
     ];
-    for (place, byte, reason) in changed {
+    for (place, byte, reason) in reasons {
         assert_eq!(rt; view_frame(Link::Raw, &with_byte(place, byte)), Err(reason));
+    }
+    // Frames with two faults.
+    let firsts = [
+        (with_byte(0, 0x65), 6, 0x20, Reason::NotIpv4),
+        (with_byte(0, 0x44), 6, 0x20, Reason::Fragment),
+        (with_byte(9, 1), 6, 0x20, Reason::Fragment),
+        (with_byte(9, 1), 0, 0x44, Reason::Short),
+    ];
+    for (frame, place, byte, reason) in firsts {
+        assert_eq!(rt;
+            view_frame(Link::Raw, &changed(frame, place, byte)),
+            Err(reason)
+        );
     }
     let fragment = with_byte(6, 0x20);
     assert_eq!(rt; cut_view(Link::Raw, &fragment, 8), Err(Reason::Fragment));
@@ -147,6 +163,12 @@ fn ethernet_announces_ipv4(rt: HostRuntime) {
     assert_eq!(rt;
         view_frame(Link::Ethernet, &ethernet(0x0806)),
         Err(Reason::NotIpv4)
+    );
+    let mut fragment = ethernet(0x0800);
+    fragment[20] = 0x20;
+    assert_eq!(rt;
+        view_frame(Link::Ethernet, &fragment),
+        Err(Reason::Fragment)
     );
     let frame = ethernet(0x0800);
     assert_eq!(rt; cut_view(Link::Ethernet, &frame, 13), Err(Reason::NotIpv4));
