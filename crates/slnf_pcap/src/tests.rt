@@ -124,6 +124,13 @@ fn broken_headers_are_refused(rt: HostRuntime) -> Result<(), Fail> {
             b"\x10\0\0\x01",
             PcapError::LinkType(0x1000_0001),
         ),
+        // Of two rules the first is told.
+        (
+            b"\xa1\xb2\xc3\xd4",
+            b"\0\x02\0\x05",
+            b"\0\0\0\x02",
+            PcapError::BadVersion,
+        ),
     ] {
         let file = header(rt.alloc(), magic, version, link)?;
         let found = read_capture(rt.alloc(), &file).err();
@@ -167,6 +174,29 @@ fn a_record_over_the_snapshot_length_is_refused(rt: HostRuntime) -> Result<(), F
         let mut file = records(rt.alloc(), &[])?;
         file.extend_from_slice(&[0, 0, 0, 0, 0, 0, 0, 0, 0, 4, 0, low, 0, 4, 0, low])?;
         assert_eq!(rt; read_capture(rt.alloc(), &file).err(), Some(want));
+    }
+    Ok(())
+}
+
+#[test]
+fn no_more_records_than_a_million_are_read(rt: HostRuntime) -> Result<(), Fail> {
+    let mut file = records(rt.alloc(), &[])?;
+    file.extend_from_slice(vec![in rt.alloc(); 0u8; 16 * 1_048_576]?.as_slice())?;
+    assert_eq!(rt; read_capture(rt.alloc(), &file)?.packets.len(), 1_048_576);
+    file.push(0)?;
+    let found = read_capture(rt.alloc(), &file).err();
+    assert_eq!(rt; found, Some(PcapError::TooMany));
+    Ok(())
+}
+
+#[test]
+fn errors_tell_their_places(rt: HostRuntime) -> Result<(), Fail> {
+    for (error, text) in [
+        (PcapError::BadVersion, "the version isn't 2.4"),
+        (PcapError::LinkType(9), "link type 9"),
+        (PcapError::TornRecord(24), "the record at 24 is torn"),
+    ] {
+        assert_eq!(rt; format!(in rt.alloc(); "{error}")?.as_str(), text);
     }
     Ok(())
 }
