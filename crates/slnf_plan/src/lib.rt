@@ -20,4 +20,6 @@ pub use plan::{Epoch, FunctionPlan, InstancePlan, Plan, SweepPlan};
 pub use reader::read_plan;
 
 #[cfg(test)]
+mod cases;
+#[cfg(test)]
 mod tests;
