@@ -43,4 +43,25 @@ mod tests {
         assert_eq!(rt; cut(&[None, FIRST, None, SECOND, SECOND]), 4);
         assert_eq!(rt; cut(&[]), 0);
     }
+
+    /// A full batch of packets with keys of their own.
+    fn different() -> [Option<Key>; 32] {
+        let mut firsts = [None; 32];
+        for (place, first) in firsts.iter_mut().enumerate() {
+            *first = Some(Key(place as u128));
+        }
+        firsts
+    }
+
+    #[test]
+    fn a_full_batch_is_cut_at_its_first_repeat(rt: HostRuntime) {
+        let mut firsts = different();
+        assert_eq!(rt; cut(&firsts), 32);
+        firsts[31] = firsts[0];
+        assert_eq!(rt; cut(&firsts), 31);
+        firsts[17] = firsts[16];
+        assert_eq!(rt; cut(&firsts), 17);
+        assert_eq!(rt; cut(&[FIRST; 32]), 1);
+        assert_eq!(rt; cut(&[None; 32]), 32);
+    }
 }

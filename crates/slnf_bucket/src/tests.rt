@@ -1,10 +1,14 @@
 use crate::{Bucket, BucketError};
-use slnf_access::{Key, Reply, Request, Value};
+use slnf_access::{Key, ListStore, Reply, Request, Value};
 use std::test::Fail;
 
 const CLIENT: Key = Key(0x0411_0000_0000_0000_0000_c000_0201_0fa0);
 
 const BACKEND: Value = Value(0x0a01_0001_0035);
+
+const OTHER: Key = Key(0x0411_0000_0000_0000_0000_c000_0201_0fa1);
+
+const ANOTHER: Value = Value(0x0a01_0002_0035);
 
 const LAST: u64 = (1 << 62) - 1;
 
@@ -69,5 +73,114 @@ fn an_access_sees_those_before_it(rt: HostRuntime) -> Result<(), Fail> {
     );
     assert_eq!(rt; history[2].request, read);
     assert_eq!(rt; history[2].reply, Reply::Found(BACKEND, 8));
+    Ok(())
+}
+
+/// Each row of the meaning of an access: a request, and the reply as the access with this place in the table.
+static ACCESSES: [(Request, Reply); 16] = [
+    (Request::Read { key: CLIENT }, Reply::Absent),
+    (
+        Request::ReplaceIf {
+            key: CLIENT,
+            version: 1,
+            value: BACKEND,
+        },
+        Reply::Absent,
+    ),
+    (
+        Request::DeleteIf {
+            key: CLIENT,
+            version: 1,
+        },
+        Reply::Absent,
+    ),
+    (
+        Request::PutIfAbsent {
+            key: CLIENT,
+            value: BACKEND,
+        },
+        Reply::Done(4),
+    ),
+    (Request::Read { key: CLIENT }, Reply::Found(BACKEND, 4)),
+    (
+        Request::PutIfAbsent {
+            key: CLIENT,
+            value: ANOTHER,
+        },
+        Reply::Found(BACKEND, 4),
+    ),
+    (
+        Request::ReplaceIf {
+            key: CLIENT,
+            version: 3,
+            value: ANOTHER,
+        },
+        Reply::Found(BACKEND, 4),
+    ),
+    (
+        Request::ReplaceIf {
+            key: CLIENT,
+            version: 4,
+            value: ANOTHER,
+        },
+        Reply::Done(8),
+    ),
+    (Request::Read { key: CLIENT }, Reply::Found(ANOTHER, 8)),
+    (
+        Request::DeleteIf {
+            key: CLIENT,
+            version: 4,
+        },
+        Reply::Found(ANOTHER, 8),
+    ),
+    (
+        Request::PutIfAbsent {
+            key: OTHER,
+            value: BACKEND,
+        },
+        Reply::Done(11),
+    ),
+    (
+        Request::DeleteIf {
+            key: CLIENT,
+            version: 8,
+        },
+        Reply::Done(12),
+    ),
+    (Request::Read { key: CLIENT }, Reply::Absent),
+    (Request::Read { key: OTHER }, Reply::Found(BACKEND, 11)),
+    (
+        Request::ReplaceIf {
+            key: CLIENT,
+            version: 8,
+            value: BACKEND,
+        },
+        Reply::Absent,
+    ),
+    (
+        Request::PutIfAbsent {
+            key: CLIENT,
+            value: ANOTHER,
+        },
+        Reply::Done(16),
+    ),
+];
+
+#[test]
+fn a_bucket_answers_as_the_plain_store(rt: HostRuntime) -> Result<(), Fail> {
+    let mut bucket = Bucket::make(rt.alloc(), 0, 1)?;
+    let mut store = ListStore::make(rt.alloc(), 1);
+    for (place, (request, expected)) in ACCESSES.iter().enumerate() {
+        let item = place as u64;
+        let (reply, stamp) = bucket.access(3, item, 0, *request)?;
+        assert_eq!(rt; reply, *expected, "access {stamp}");
+        assert_eq!(rt;
+            store.access(3, item, *request)?,
+            *expected,
+            "access {stamp}"
+        );
+    }
+    let history = bucket.into_history();
+    assert_eq!(rt; history.as_slice(), store.entries());
     Ok(())
 }

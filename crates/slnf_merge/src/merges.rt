@@ -44,12 +44,12 @@ mod tests {
 
     const BACKEND: Value = Value(0x0a01_0001_0035);
 
-    fn looked(shard: u32, key: Key) -> Entry
-        ensures stamp { result.stamp ≡ 1 }
+    fn looked(stamp: u64, shard: u32, key: Key) -> Entry
+        ensures stamp { result.stamp ≡ stamp }
         ensures shard { result.shard ≡ shard }
     {
         Entry {
-            stamp: 1,
+            stamp,
             shard,
             incarnation: u64::from(shard),
             item: 0,
@@ -58,12 +58,12 @@ mod tests {
         }
     }
 
-    fn put(shard: u32, key: Key) -> Entry
-        ensures stamp { result.stamp ≡ 2 }
+    fn put(stamp: u64, shard: u32, key: Key) -> Entry
+        ensures stamp { result.stamp ≡ stamp }
         ensures shard { result.shard ≡ shard }
     {
         Entry {
-            stamp: 2,
+            stamp,
             shard,
             incarnation: u64::from(shard),
             item: 0,
@@ -71,20 +71,59 @@ mod tests {
                 key,
                 value: BACKEND,
             },
-            reply: Reply::Done(2),
+            reply: Reply::Done(stamp),
         }
     }
 
     #[test]
+    fn no_accesses_merge_to_none(rt: HostRuntime) -> Result<(), Fail> {
+        assert!(rt; merge(rt.alloc(), vec![in rt.alloc()]?)?.is_empty());
+        let first = vec![in rt.alloc()]?;
+        let second = vec![in rt.alloc()]?;
+        assert!(rt; merge(rt.alloc(), vec![in rt.alloc(); first, second]?)?.is_empty());
+        Ok(())
+    }
+
+    #[test]
+    fn a_single_history_stays(rt: HostRuntime) -> Result<(), Fail> {
+        let only = vec![in rt.alloc(); looked(3, 0, CLIENT), put(9, 0, CLIENT)]?;
+        let merged = merge(rt.alloc(), vec![in rt.alloc(); only]?)?;
+        let expected = [looked(3, 0, CLIENT), put(9, 0, CLIENT)];
+        assert_eq!(rt; merged.as_slice(), expected.as_slice());
+        Ok(())
+    }
+
+    #[test]
     fn two_shards_go_by_stamp_and_shard(rt: HostRuntime) -> Result<(), Fail> {
-        let first = vec![in rt.alloc(); looked(0, CLIENT), put(0, CLIENT)]?;
-        let second = vec![in rt.alloc(); looked(1, OTHER), put(1, OTHER)]?;
+        let first = vec![in rt.alloc(); looked(1, 0, CLIENT), put(2, 0, CLIENT)]?;
+        let second = vec![in rt.alloc(); looked(1, 1, OTHER), put(2, 1, OTHER)]?;
         let merged = merge(rt.alloc(), vec![in rt.alloc(); first, second]?)?;
         let expected = [
-            looked(0, CLIENT),
-            looked(1, OTHER),
-            put(0, CLIENT),
-            put(1, OTHER),
+            looked(1, 0, CLIENT),
+            looked(1, 1, OTHER),
+            put(2, 0, CLIENT),
+            put(2, 1, OTHER),
+        ];
+        assert_eq!(rt; merged.as_slice(), expected.as_slice());
+        Ok(())
+    }
+
+    #[test]
+    fn histories_interleave(rt: HostRuntime) -> Result<(), Fail> {
+        let first = vec![in rt.alloc(); looked(2, 0, CLIENT), put(5, 0, CLIENT)]?;
+        let none = vec![in rt.alloc()]?;
+        let third = vec![in rt.alloc();
+            looked(1, 2, OTHER),
+            put(2, 2, OTHER),
+            looked(7, 2, OTHER),
+        ]?;
+        let merged = merge(rt.alloc(), vec![in rt.alloc(); first, none, third]?)?;
+        let expected = [
+            looked(1, 2, OTHER),
+            looked(2, 0, CLIENT),
+            put(2, 2, OTHER),
+            put(5, 0, CLIENT),
+            looked(7, 2, OTHER),
         ];
         assert_eq!(rt; merged.as_slice(), expected.as_slice());
         Ok(())
