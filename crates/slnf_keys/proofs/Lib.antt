@@ -1,3 +1,4 @@
+mod Codes
 mod Conns
 mod Layouts
 pub mod Laws

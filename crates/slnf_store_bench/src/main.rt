@@ -39,7 +39,7 @@ fn main(rt: HostRuntime) -> Result<()> {
 fn merged_accesses(alloc: Global, accesses: u32) -> Result<Vec<Entry>> {
     let mut shards = Shards::make(alloc, SHARDS)?;
     let mut mix = Mix::make(alloc, accesses)?;
-    let mut callers = [caller(0), caller(1), caller(2), caller(3)];
+    let mut callers = vec![in alloc; caller(0), caller(1), caller(2), caller(3)]?;
     for item in 0..accesses {
         let draw = mix.next();
         let caller = &mut callers[item as usize % 4];

@@ -7,7 +7,7 @@ use std::alloc::Global;
 use std::marker::Model;
 
 /// Who makes accesses: the number that the entries name, and the stamp of its last access.
-#[derive(Debug, Drop)]
+#[derive(Clone, Copy, Debug)]
 pub struct Caller {
     pub incarnation: u64,
     pub clock: u64,

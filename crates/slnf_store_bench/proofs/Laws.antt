@@ -1,0 +1,70 @@
+-- buckets and histories in the order of their shards
+use Rattle.std.proofs.Common.{◌≡◌, ℕ, zero, suc, ◌+◌, ◌<◌, List, [], ◌∷◌, ◌++◌, length, get_or, set, map, Vec, Global, length-set, sym, ◌∙◌, subst, arith}
+use Rattle.slnf_access.specs.declared.requests.Entry.{Entry}
+use Rattle.slnf_bucket.specs.Bucket.{Bucketed, IsHistory}
+use Rattle.slnf_merge.specs.Merge.{IsHistory as IsMergeable, AreHistories}
+use Rattle.slnf_store_bench.specs.Shards.{AreShards, IsSharded}
+
+-- the bucket is that of this shard, of so many
+pub record IsOf (shard shards : ℕ) (bucket : Bucketed) : Type 0 where
+  pub shard_is : bucket.kept.shard ≡ shard
+  pub shards_are : bucket.kept.shards ≡ shards
+
+-- the bucket at a place
+pub AreShards-at : (low shards : ℕ) (buckets : List Bucketed) (k : ℕ) (d : Bucketed) → AreShards low shards buckets → k < length buckets → IsOf (low + k) shards (get_or buckets k d)
+AreShards-at low shards [] k d h inside = absurd (omega arith)
+AreShards-at low shards (b ∷ bs) zero d h inside = record { shard_is = omega (arith, h.0); shards_are = h.1 }
+AreShards-at low shards (b ∷ bs) (suc k) d h inside =
+    let rest = AreShards-at (low + 1) shards bs k d h.2 (omega arith) in
+    record { shard_is = omega (arith, rest.shard_is); shards_are = rest.shards_are }
+
+-- another bucket of its shard in its place
+pub AreShards-set : (low shards : ℕ) (buckets : List Bucketed) (k : ℕ) (b : Bucketed) → AreShards low shards buckets → IsOf (low + k) shards b → AreShards low shards (set buckets k b)
+AreShards-set low shards [] k b h new = h
+AreShards-set low shards (c ∷ cs) zero b h new = (omega (arith, new.shard_is), new.shards_are, h.2)
+AreShards-set low shards (c ∷ cs) (suc k) b h new =
+    (h.0, h.1, AreShards-set (low + 1) shards cs k b h.2 (record { shard_is = omega (arith, new.shard_is); shards_are = new.shards_are }))
+
+-- one bucket more
+pub AreShards-push : (low shards : ℕ) (buckets : List Bucketed) (b : Bucketed) → AreShards low shards buckets → IsOf (low + length buckets) shards b → AreShards low shards (buckets ++ b ∷ [])
+AreShards-push low shards [] b h new = (omega (arith, new.shard_is), new.shards_are, tt)
+AreShards-push low shards (c ∷ cs) b h new =
+    (h.0, h.1, AreShards-push (low + 1) shards cs b h.2 (record { shard_is = omega (arith, new.shard_is); shards_are = new.shards_are }))
+
+-- the same of a store's buckets
+pub IsSharded-at : (buckets : List Bucketed) (k : ℕ) (d : Bucketed) → IsSharded buckets → k < length buckets → IsOf k (length buckets) (get_or buckets k d)
+IsSharded-at buckets k d h inside =
+    let at = AreShards-at 0 (length buckets) buckets k d h.own inside in
+    record { shard_is = omega (arith, at.shard_is); shards_are = at.shards_are }
+
+pub IsSharded-set : (buckets : List Bucketed) (k : ℕ) (b : Bucketed) → IsSharded buckets → IsOf k (length buckets) b → IsSharded (set buckets k b)
+IsSharded-set buckets k b h new =
+    let same : length (set buckets k b) ≡ length buckets = length-set buckets k b in
+    let own = AreShards-set 0 (length buckets) buckets k b h.own (record { shard_is = omega (arith, new.shard_is); shards_are = new.shards_are }) in
+    record { some = rw same h.some; own = rw same own }
+
+-- a bucket that was lent from a place
+pub IsOf-lent : (buckets : List Bucketed) (k : ℕ) (bucket : Bucketed) → IsSharded buckets → k < length buckets → bucket ≡ get_or buckets k bucket → IsOf k (length buckets) bucket
+IsOf-lent buckets k bucket h inside is =
+    subst (λ (b : Bucketed). IsOf k (length buckets) b) (sym is) (IsSharded-at buckets k bucket h inside)
+
+-- a bucket that was lent from a place, put back with its shard and its shards
+pub IsSharded-back : (buckets : List Bucketed) (k : ℕ) (old new : Bucketed) → IsSharded buckets → k < length buckets → old ≡ get_or buckets k old → new.kept.shard ≡ old.kept.shard → new.kept.shards ≡ old.kept.shards → IsSharded (set buckets k new)
+IsSharded-back buckets k old new h inside is shard shards =
+    let of = IsOf-lent buckets k old h inside is in
+    IsSharded-set buckets k new h (record { shard_is = shard ∙ of.shard_is; shards_are = shards ∙ of.shards_are })
+
+-- what a bucket's history is, a merge takes
+pub IsMergeable-from_history : (shard : ℕ) (es : List Entry) → IsHistory shard es → IsMergeable shard es
+IsMergeable-from_history shard [] h = tt
+IsMergeable-from_history shard (e ∷ []) h = h
+IsMergeable-from_history shard (e ∷ f ∷ es) h = (h.0, h.1, IsMergeable-from_history shard (f ∷ es) h.2)
+
+-- one history more
+pub AreHistories-push : (low : ℕ) (histories : List (Vec Entry Global)) (history : Vec Entry Global) → AreHistories low (map (λ h. h.items) histories) → IsMergeable (low + length histories) history.items → AreHistories low (map (λ h. h.items) (histories ++ history ∷ []))
+AreHistories-push low [] history h new =
+    let first : low + length {A = Vec Entry Global} [] ≡ low = omega arith in
+    (subst (λ (shard : ℕ). IsMergeable shard history.items) first new, tt)
+AreHistories-push low (x ∷ xs) history h new =
+    let next : low + length (x ∷ xs) ≡ low + 1 + length xs = omega arith in
+    (h.0, AreHistories-push (low + 1) xs history h.1 (subst (λ (shard : ℕ). IsMergeable shard history.items) next new))
