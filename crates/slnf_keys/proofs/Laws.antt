@@ -1,15 +1,11 @@
 -- The laws of the numbers of keys and values, for the crates above.
 use Rattle.std.proofs.Common.{◌≡◌, ℕ, ◌+◌, ◌*◌, ◌/◌, ◌^◌, ◌<◌, nat_lt, true, Some, refl, arith, lt-ltb, ltb-true}
-use Rattle.slnf_base.specs.declared.addresses.Pair.{Pair}
 use Rattle.slnf_keys.specs.declared.layout.Kind.{Kind}
 use Rattle.slnf_keys.specs.declared.layout.Kind.TheVariants as kind
 use Rattle.slnf_keys.specs.declared.keys.FlowKey.{FlowKey}
 use Rattle.slnf_keys.specs.declared.keys.PortKey.{PortKey}
 use Rattle.slnf_keys.specs.declared.keys.ConnKey.{ConnKey}
 use Rattle.slnf_keys.specs.declared.keys.PinKey.{PinKey}
-use Rattle.slnf_keys.specs.declared.values.FlowTo.{FlowTo}
-use Rattle.slnf_keys.specs.declared.values.Claim.{Claim}
-use Rattle.slnf_keys.specs.declared.values.Conn.{Conn}
 use Rattle.slnf_keys.specs.declared.values.Pin.{Pin}
 use Rattle.slnf_keys.specs.Layout.{pair_number, kind_tag}
 use Rattle.slnf_keys.specs.Keys.{flow_key_number, flow_key_of, IsFlowKey, port_key_number, port_key_of, IsPortKey, conn_key_number, conn_key_of, IsConnKey, pin_key_number, pin_key_of, IsPinKey}

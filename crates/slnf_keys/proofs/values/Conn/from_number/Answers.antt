@@ -10,6 +10,6 @@ returns c =
     let value : c.and_then.result ≡ conn_of c.args.number = search rules in
     record {
       value = value;
-      gives = rw value (coded_gives conn_number conn_of (λ value. Unit {0}) conn-coded _);
-      finds = λ x e. value ∙ coded_finds conn_number conn_of (λ value. Unit {0}) conn-coded _ x tt e;
+      gives = rw value (coded_gives conn_number conn_of (λ value. Unit {0}) conn-coded c.args.number);
+      finds = λ x e. value ∙ coded_finds conn_number conn_of (λ value. Unit {0}) conn-coded c.args.number x tt e;
     }
