@@ -184,3 +184,12 @@ fn a_bucket_answers_as_the_plain_store(rt: HostRuntime) -> Result<(), Fail> {
     assert_eq!(rt; history.as_slice(), store.entries());
     Ok(())
 }
+
+#[test]
+fn refusals_have_a_text(rt: HostRuntime) -> Result<(), Fail> {
+    let spent = format!(in rt.alloc(); "{}", BucketError::StampsSpent(LAST))?;
+    assert_eq!(rt; spent.as_str(), "no stamp after 4611686018427387903");
+    let wanting = format!(in rt.alloc(); "{}", BucketError::NoMemory)?;
+    assert_eq!(rt; wanting.as_str(), "no memory");
+    Ok(())
+}

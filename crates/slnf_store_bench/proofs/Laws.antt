@@ -1,9 +1,12 @@
 -- buckets and histories in the order of their shards
-use Rattle.std.proofs.Common.{◌≡◌, ℕ, zero, suc, ◌+◌, ◌<◌, List, [], ◌∷◌, ◌++◌, length, get_or, set, map, Vec, Global, length-set, sym, ◌∙◌, subst, arith}
+use Rattle.std.proofs.Common.{◌≡◌, ℕ, zero, suc, ◌+◌, ◌<◌, List, [], ◌∷◌, ◌++◌, length, get_or, set, length-set, sym, ◌∙◌, subst, arith}
 use Rattle.slnf_access.specs.declared.requests.Entry.{Entry}
-use Rattle.slnf_bucket.specs.Bucket.{Bucketed, IsHistory}
-use Rattle.slnf_merge.specs.Merge.{IsHistory as IsMergeable, AreHistories}
-use Rattle.slnf_store_bench.specs.Shards.{AreShards, IsSharded}
+use Rattle.slnf_access.specs.Map.{IsLegal}
+use Rattle.slnf_bucket.specs.Bucket.{Bucketed, Kept, AreOwn, IsHistory, IsKept}
+use Rattle.slnf_bucket.proofs.Laws.{IsHistory-from_kept}
+use Rattle.slnf_merge.specs.Merge.{IsHistory as IsMergeable, AreHistories, InShards, EachLegal, all_of}
+use Rattle.slnf_merge.proofs.Laws.{all_of-push}
+use Rattle.slnf_store_bench.specs.Shards.{AreShards, IsSharded, AreStored}
 
 -- the bucket is that of this shard, of so many
 pub record IsOf (shard shards : ℕ) (bucket : Bucketed) : Type 0 where
@@ -61,10 +64,38 @@ IsMergeable-from_history shard (e ∷ []) h = h
 IsMergeable-from_history shard (e ∷ f ∷ es) h = (h.0, h.1, IsMergeable-from_history shard (f ∷ es) h.2)
 
 -- one history more
-pub AreHistories-push : (low : ℕ) (histories : List (Vec Entry Global)) (history : Vec Entry Global) → AreHistories low (map (λ h. h.items) histories) → IsMergeable (low + length histories) history.items → AreHistories low (map (λ h. h.items) (histories ++ history ∷ []))
-AreHistories-push low [] history h new =
-    let first : low + length {A = Vec Entry Global} [] ≡ low = omega arith in
-    (subst (λ (shard : ℕ). IsMergeable shard history.items) first new, tt)
-AreHistories-push low (x ∷ xs) history h new =
+AreHistories-push : (low : ℕ) (histories : List (List Entry)) (es : List Entry) → AreHistories low histories → IsMergeable (low + length histories) es → AreHistories low (histories ++ es ∷ [])
+AreHistories-push low [] es h new =
+    let first : low + length {A = List Entry} [] ≡ low = omega arith in
+    (subst (λ (shard : ℕ). IsMergeable shard es) first new, tt)
+AreHistories-push low (x ∷ xs) es h new =
     let next : low + length (x ∷ xs) ≡ low + 1 + length xs = omega arith in
-    (h.0, AreHistories-push (low + 1) xs history h.1 (subst (λ (shard : ℕ). IsMergeable shard history.items) next new))
+    (h.0, AreHistories-push (low + 1) xs es h.1 (subst (λ (shard : ℕ). IsMergeable shard es) next new))
+
+EachLegal-push : (histories : List (List Entry)) (es : List Entry) → EachLegal histories → IsLegal es → EachLegal (histories ++ es ∷ [])
+EachLegal-push [] es h new = (new, tt)
+EachLegal-push (x ∷ xs) es h new = (h.0, EachLegal-push xs es h.1 new)
+
+InShards-from_own : (shard shards : ℕ) (es : List Entry) → AreOwn shard shards es → InShards shards es
+InShards-from_own shard shards [] h = tt
+InShards-from_own shard shards (e ∷ es) h = (h.0 ∙ sym h.1, InShards-from_own shard shards es h.2)
+
+InShards-append : (shards : ℕ) (xs ys : List Entry) → InShards shards xs → InShards shards ys → InShards shards (xs ++ ys)
+InShards-append shards [] ys h k = k
+InShards-append shards (x ∷ xs) ys h k = (h.0, InShards-append shards xs ys h.1 k)
+
+-- the next bucket's
+pub AreStored-push : (shards : ℕ) (histories : List (List Entry)) (kept : Kept) → AreStored shards histories → IsKept kept → kept.shard ≡ length histories → kept.shards ≡ shards → AreStored shards (histories ++ kept.entries ∷ [])
+AreStored-push shards histories kept h is shard shards_are =
+    let place : kept.shard ≡ 0 + length histories = omega arith in
+    let own : InShards shards kept.entries = subst (λ (n : ℕ). InShards n kept.entries) shards_are (InShards-from_own kept.shard kept.shards kept.entries is.own) in
+    let more : InShards shards (all_of histories ++ kept.entries) = InShards-append shards (all_of histories) kept.entries h.own own in
+    let new = IsMergeable-from_history kept.shard kept.entries (IsHistory-from_kept kept is) in
+    record {
+      in_place = AreHistories-push 0 histories kept.entries h.in_place (subst (λ (s : ℕ). IsMergeable s kept.entries) place new);
+      own = rw all_of-push more;
+      legal = EachLegal-push histories kept.entries h.legal is.legal;
+    }
+
+pub AreStored-none : (shards : ℕ) → AreStored shards []
+AreStored-none shards = record { in_place = tt; own = tt; legal = tt }

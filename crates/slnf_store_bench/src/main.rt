@@ -1,6 +1,10 @@
 //! A measure of the store's parts: so many accesses to eight buckets, their histories merged, and a checksum.
 #![tactic(auto)]
 
+ghost use Rattle.std.specs.Prelude.{IfOk};
+ghost use Rattle.slnf_access.specs.Map.{IsLegal};
+ghost use Rattle.slnf_merge.specs.Merge.{InOrder};
+
 mod mixes;
 mod shards;
 mod sums;
@@ -36,7 +40,10 @@ fn main(rt: HostRuntime) -> Result<()> {
 }
 
 /// So many accesses of the mix by four callers in turn, merged.
-fn merged_accesses(alloc: Global, accesses: u32) -> Result<Vec<Entry>> {
+fn merged_accesses(alloc: Global, accesses: u32) -> Result<Vec<Entry>>
+    ensures in_order { IfOk result (λ merged. InOrder merged.items) }
+    ensures legal { IfOk result (λ merged. IsLegal merged.items) }
+{
     let mut shards = Shards::make(alloc, SHARDS)?;
     let mut mix = Mix::make(alloc, accesses)?;
     let mut callers = vec![in alloc; caller(0), caller(1), caller(2), caller(3)]?;

@@ -1,10 +1,11 @@
-ghost use Rattle.std.specs.Prelude.{◌<◌, vec_len};
+ghost use Rattle.std.specs.Prelude.{◌≡◌, ◌+◌, ◌/◌, ◌<◌, IfOk};
 
 use rand_core::{Rng, SeedableRng};
 use rand_xoshiro::SplitMix64;
 use slnf_access::{Key, Reply, Request, Value};
 use slnf_base::NoMemory;
 use std::alloc::Global;
+use std::marker::Model;
 
 /// The generator's seed.
 const SEED: u64 = 7;
@@ -21,7 +22,17 @@ const ACCESSES_A_KEY: u32 = 8;
 pub struct Mix {
     words: SplitMix64,
     versions: Vec<u64>,
-    ghost some: { 0 < vec_len versions },
+}
+
+// A mix is seen as the number of its keys.
+impl Model for Mix {
+    ghost use Rattle.std.specs.Prelude.{ℕ, ◌<◌, vec_len};
+
+    ghost Value = { ℕ };
+
+    ghost view = { λ mix. vec_len mix.versions };
+
+    ghost invariant = { λ mix. 0 < vec_len mix.versions };
 }
 
 /// An access of the mix, and its key's place.
@@ -33,7 +44,9 @@ pub struct Draw {
 
 impl Mix {
     /// The mix for so many accesses.
-    pub fn make(alloc: Global, accesses: u32) -> Result<Mix, NoMemory> {
+    pub fn make(alloc: Global, accesses: u32) -> Result<Mix, NoMemory>
+        ensures { IfOk result (λ mix. mix ≡ accesses / 8 + 1) }
+    {
         let keys = accesses / ACCESSES_A_KEY + 1;
         Ok(Mix {
             words: SplitMix64::seed_from_u64(SEED),
@@ -43,7 +56,8 @@ impl Mix {
 
     /// The next access.
     pub fn next(&mut self) -> Draw
-        ensures { result.place < vec_len self.new.versions }
+        ensures place { result.place < self.old }
+        ensures keys { self.new ≡ self.old }
     {
         let word = self.words.next_u64();
         let place = ((word >> 32) % self.versions.len() as u64) as usize;
@@ -62,7 +76,8 @@ impl Mix {
 
     /// Keeps the version that the reply tells.
     pub fn told(&mut self, place: usize, reply: Reply)
-        requires { place < vec_len self.old.versions }
+        requires { place < self.old }
+        ensures { self.new ≡ self.old }
     {
         self.versions[place] = match reply {
             Reply::Done(stamp) => stamp,

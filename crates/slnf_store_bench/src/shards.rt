@@ -1,4 +1,4 @@
-ghost use Rattle.std.specs.Prelude.{◌≡◌, ◌<◌, ◌≤◌, ◌^◌, IfOk, map};
+ghost use Rattle.std.specs.Prelude.{◌≡◌, ◌<◌, ◌≤◌, ◌^◌, length, IfOk, map};
 
 use slnf_access::{Entry, Reply, Request};
 use slnf_base::NoMemory;
@@ -33,16 +33,17 @@ impl Model for Shards {
 }
 
 impl Shards {
-    ghost use Rattle.slnf_merge.specs.Merge.{AreHistories};
+    ghost use Rattle.slnf_store_bench.specs.Shards.{AreStored};
 
     /// The store before any access.
-    pub fn make(alloc: Global, shards: u32) -> Result<Shards, NoMemory>
-        requires some { 0 < shards }
-        requires most { shards ≤ 64 }
+    pub fn make(alloc: Global, count: u32) -> Result<Shards, NoMemory>
+        requires some { 0 < count }
+        requires most { count ≤ 64 }
+        ensures { IfOk result (λ shards. length shards ≡ count) }
     {
-        let mut buckets = Vec::with_capacity(alloc, shards as usize)?;
-        for shard in 0..shards {
-            buckets.push(Bucket::make(alloc, shard, shards)?)?;
+        let mut buckets = Vec::with_capacity(alloc, count as usize)?;
+        for shard in 0..count {
+            buckets.push(Bucket::make(alloc, shard, count)?)?;
         }
         Ok(Shards { buckets })
     }
@@ -53,7 +54,9 @@ impl Shards {
         caller: &mut Caller,
         item: u64,
         request: Request,
-    ) -> Result<Reply, BucketError> {
+    ) -> Result<Reply, BucketError>
+        ensures { length self.new ≡ length self.old }
+    {
         let shard = request.key().0 % self.buckets.len() as u128;
         let bucket = &mut self.buckets[shard as usize];
         let (reply, stamp) = bucket.access(caller.incarnation, item, caller.clock, request)?;
@@ -63,7 +66,7 @@ impl Shards {
 
     /// The accesses of each shard, in order.
     pub fn into_histories(self, alloc: Global) -> Result<Vec<Vec<Entry>>, NoMemory>
-        ensures { IfOk result (λ histories. AreHistories 0 (map (λ history. history.items) histories.items)) }
+        ensures { IfOk result (λ histories. AreStored (length self) (map (λ history. history.items) histories.items)) }
     {
         let Shards { buckets } = self;
         let mut histories = Vec::with_capacity(alloc, buckets.len())?;

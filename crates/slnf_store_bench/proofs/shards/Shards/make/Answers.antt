@@ -11,14 +11,14 @@ loop-shard-preserved c =
     let bucket = c.in_ok-make.field-0 in
     let made = c.in_ok-make.ensures in
     let shard : bucket.kept.shard ≡ c.loop-shard.shard = ap (λ (k : Kept). k.shard) made in
-    let shards : bucket.kept.shards ≡ c.args.shards = ap (λ (k : Kept). k.shards) made in
+    let shards : bucket.kept.shards ≡ c.args.count = ap (λ (k : Kept). k.shards) made in
     let count : length buckets ≡ c.loop-shard.shard = c.loop-shard.invariant.0 in
     rw c.in_ok-push.ensures.items (
       omega (arith, length_push buckets bucket),
-      AreShards-push 0 c.args.shards buckets bucket c.loop-shard.invariant.1 (record { shard_is = omega arith; shards_are = shards }),
+      AreShards-push 0 c.args.count buckets bucket c.loop-shard.invariant.1 (record { shard_is = omega arith; shards_are = shards }),
     )
 
 pub invariant_of-result : goal.invariant_of-result
 invariant_of-result c =
-    let count : length c.loop-shard.buckets.items ≡ c.args.shards = omega (arith, c.loop-shard.invariant.0) in
+    let count : length c.loop-shard.buckets.items ≡ c.args.count = omega (arith, c.loop-shard.invariant.0) in
     record { some = omega arith; own = rw count c.loop-shard.invariant.1 }

@@ -4,4 +4,4 @@ use Rattle.slnf_store_bench.specs.Shards.{AreShards}
 use Rattle.slnf_store_bench.proofs.shards.Shards.make.Given as goal
 
 abbrev pub invariant-loop-shard : goal.invariant-loop-shard
-invariant-loop-shard l = (length l.buckets.items ≡ l.shard) × AreShards 0 l.fn.shards l.buckets.items
+invariant-loop-shard l = (length l.buckets.items ≡ l.shard) × AreShards 0 l.fn.count l.buckets.items
