@@ -1,8 +1,12 @@
 pub mod Steps
 pub mod Stopping
 pub mod Turning
-pub mod Working
-pub mod Alone
-pub mod AlonePlans
 pub mod Posted
 pub mod Rounds
+pub mod Finishing
+pub mod Leaving
+pub mod AtWork
+pub mod UnderWay
+pub mod PlanRuns
+pub mod Closing
+pub mod Handing

@@ -20,14 +20,14 @@ batch_of-ones number a (suc n) item l u = elim (cases_eq a item) [
       cond-false (a == item) number _ (ne_eqb a item e) ∙ (batch_of-ones (number + 1) (a + 1) n item (omega arith) (omega arith) ∙ q)
 ]
 
-le_true : (a b : ℕ) → a ≤ b → nat_le a b ≡ true
+pub le_true : (a b : ℕ) → a ≤ b → nat_le a b ≡ true
 le_true a b l = grind (arith, nat_tests)
 
 le_false : (a b : ℕ) → b < a → nat_le a b ≡ false
 le_false a b l = grind (arith, nat_tests)
 
 -- no offer of a later batch is one up to this batch
-none_until : (number a n batch : ℕ) → batch < number → filter (λ (offer : Offer). nat_le offer.batch batch) (one_by_one number (range_with_len a n)) ≡ []
+pub none_until : (number a n batch : ℕ) → batch < number → filter (λ (offer : Offer). nat_le offer.batch batch) (one_by_one number (range_with_len a n)) ≡ []
 none_until number a zero batch l = refl
 none_until number a (suc n) batch l =
     cond-false (nat_le number batch) _ _ (le_false number batch l) ∙ none_until (number + 1) (a + 1) n batch (omega arith)
@@ -45,7 +45,7 @@ until-ones number a (suc n) batch l u =
       | inr e ↦ let more : length rest ≡ batch - (number + 1) + 1 = until-ones (number + 1) (a + 1) n batch (omega arith) (omega arith) in omega arith
     ]
 
-last_push : (es : List Entry) (e : Entry) → last_of (es ++ e ∷ []) ≡ Some e
+pub last_push : (es : List Entry) (e : Entry) → last_of (es ++ e ∷ []) ≡ Some e
 last_push [] e = refl
 last_push (f ∷ []) e = refl
 last_push (f ∷ g ∷ es) e = last_push (g ∷ es) e

@@ -1,3 +1,5 @@
 pub mod Work
 pub mod Plans
 pub mod Epochs
+pub mod Ledger
+pub mod Passing

@@ -14,7 +14,6 @@ use Rattle.slnf_flight.specs.PlanSetting.{instance_actor, begins_with}
 use Rattle.slnf_flight.specs.Scheduled.{wanted, with_access}
 use Rattle.slnf_flight.specs.Verdicts.{verdict_at, verdict_by}
 use Rattle.slnf_plan.specs.declared.plan.InstancePlan.{InstancePlan}
-use Rattle.slnf_flight.proofs.Laws.{Extends, IsAccess}
 use Rattle.slnf_orch.specs.declared.workers.Worker.{Worker}
 
 -- each of these, the first of which has this number, has this
@@ -104,10 +103,3 @@ pub record IsMade {F : Type 0} (incarnation : ℕ) (instance : InstancePlan) (at
   pub incarnation_is : w.incarnation ≡ incarnation
   pub instance_is : w.instance ≡ instance
   pub at_is : w.at ≡ at
-
--- A worker has made the accesses that its actor wants, one after another, and wants none now.
-pub record IsWorked {F : Type 0} (s : Setting F) (es fs : List Entry) (v w : Worker F) : Type 0 where
-  pub extends : Extends (IsAccess s v.incarnation v.at (actor_of v)) es fs
-  pub settled : IsSettled s fs w
-  pub nothing : wanted s fs v.incarnation v.at (actor_of v) ≡ None
-  pub idle : w.flight ≡ None

@@ -3,10 +3,13 @@ ghost use Rattle.slnf_flight.specs.Setting.{Setting, Era};
 ghost use Rattle.slnf_orch.specs.Epochs.{packets_in, AreWithin, AreAtWork, IsTurnAt, IsTurned, IsRound, AreDone};
 ghost use Rattle.std.specs.List.{list_all};
 
-use crate::workers::{Worker, turn};
+use crate::ledger::{hand_over, place_in};
+use crate::workers::{Worker, make, turn};
 use slnf_access::{Function, ListStore};
-use slnf_base::NoMemory;
+use slnf_base::{NoMemory, Verdict};
 use slnf_flight::{Lane, Taken};
+use slnf_plan::{Epoch, InstancePlan};
+use std::alloc::Global;
 
 /// The packets of a lane by its number. A lane without a capture has none.
 pub(crate) fn packets_in(lanes: &[Lane], lane: u32) -> &[Taken]
@@ -115,5 +118,77 @@ fn rounds<F: Function>(
         → AreDone s store.old.entries store.new.entries lanes.now (F.begins function.now) (F.asks function.now) (F.goes function.now) base places era workers.new.items) }
 {
     while round(function, lanes, store, workers)? {}
+    Ok(())
+}
+
+ghost use Rattle.std.specs.Prelude.{[], ◌++◌, map};
+ghost use Rattle.slnf_flight.specs.Parts.{part_of};
+ghost use Rattle.slnf_flight.specs.PlanSetting.{instance_actor};
+ghost use Rattle.slnf_orch.specs.Ledger.{places_in, lists, IsFitting, AreMade};
+ghost use Rattle.slnf_orch.specs.Passing.{AreRunBy, HasPassed};
+ghost use Rattle.slnf_orch.specs.Plans.{AreFew};
+
+/// Makes a worker for each instance of an epoch whose first incarnation is `base`. Each begins in its lane where the ledger
+/// leaves off.
+fn make_workers<F: Function>(
+    alloc: Global,
+    function: &F,
+    lanes: &[Lane],
+    base: u64,
+    instances: &[InstancePlan],
+    ledger: &[Vec<Verdict>],
+) -> Result<Vec<Worker<F::Flight>>, NoMemory>
+    requires base { base + length instances.now ≤ 2 ^ 32 }
+    requires few { AreFew lanes.now }
+    requires fits { IsFitting lanes.now (lists ledger.now) }
+    ensures { IfOk result (λ workers. AreMade lanes.now (F.begins function.now) (F.asks function.now) (F.goes function.now) base instances.now (lists ledger.now) workers.items) }
+{
+    let mut workers = Vec::new(alloc);
+    for number in 0..instances.len() {
+        let instance = instances[number];
+        let packets = packets_in(lanes, instance.lane);
+        let at = place_in(ledger, instance.lane);
+        let worker = make(alloc, function, base + number as u64, instance, packets, at)?;
+        workers.push(worker)?;
+    }
+    Ok(workers)
+}
+
+/// Runs an epoch whose first incarnation is `base`: its schedule's turns, and then rounds until all its instances have ended.
+pub(crate) fn run_epoch<F: Function>(
+    alloc: Global,
+    function: &F,
+    lanes: &[Lane],
+    base: u64,
+    epoch: &Epoch,
+    store: &mut ListStore,
+    ledger: &mut Vec<Vec<Verdict>>,
+) -> Result<(), NoMemory>
+    requires base { base + length epoch.now.instances ≤ 2 ^ 32 }
+    requires few { AreFew lanes.now }
+    requires there { IsTrue (list_all (λ n. nat_lt n (length epoch.now.instances)) epoch.now.schedule) }
+    requires fits { IsFitting lanes.now (lists ledger.old.items) }
+    requires count { length ledger.old.items ≡ length lanes.now }
+    ensures count { OnOk result (length ledger.new.items ≡ length ledger.old.items) }
+    ensures shards { OnOk result (store.new.shards ≡ store.old.shards) }
+    ensures counts { OnOk result (length store.old.entries < 2 ^ 62 → length store.new.entries < 2 ^ 62) }
+    ensures passed { OnOk result ((s : Setting F.Flight) (era : Era)
+        → s.shards ≡ store.old.shards
+        → era.actors ≡ map instance_actor epoch.now.instances → era.schedule ≡ epoch.now.schedule
+        → AreRunBy s lanes.now (F.begins function.now) (F.asks function.now) (F.goes function.now) base epoch.now.instances
+        → ((i : ℕ) → base ≤ i → part_of i store.old.entries ≡ [])
+        → HasPassed s lanes.now base era store.old.entries store.new.entries (lists ledger.old.items) (lists ledger.new.items)) }
+{
+    let instances = epoch.instances.as_slice();
+    let mut workers = make_workers(alloc, function, lanes, base, instances, ledger.as_slice())?;
+    turns_by(
+        function,
+        lanes,
+        store,
+        &mut workers,
+        epoch.schedule.as_slice(),
+    )?;
+    rounds(function, lanes, store, &mut workers)?;
+    hand_over(ledger, workers.as_slice())?;
     Ok(())
 }

@@ -2,6 +2,7 @@
 #![tactic(auto)]
 
 mod epochs;
+mod ledger;
 mod plans;
 #[cfg(test)]
 mod tests;

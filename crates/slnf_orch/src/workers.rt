@@ -140,7 +140,7 @@ pub(crate) fn turn<F: Function>(
 }
 
 ghost use Rattle.slnf_flight.specs.Parts.{part_of, within_quota, is_stopped};
-ghost use Rattle.slnf_orch.specs.Work.{IsMade, IsWorked};
+ghost use Rattle.slnf_orch.specs.Work.{IsMade};
 ghost use Rattle.std.specs.Prelude.{[]};
 
 /// How many of these packets an instance takes at most.
@@ -190,26 +190,4 @@ pub(crate) fn make<F: Function>(
         settle(function, packets, &mut worker)?;
     }
     Ok(worker)
-}
-
-/// Makes the worker's accesses, one after another, until it wants none.
-pub(crate) fn work<F: Function>(
-    function: &F,
-    packets: &[Taken],
-    store: &mut ListStore,
-    worker: &mut Worker<F::Flight>,
-) -> Result<(), NoMemory>
-    requires { IsWithin packets.now worker.old }
-    ensures within { OnOk result (IsWithin packets.now worker.new) }
-    ensures job { OnOk result (IsSameJob worker.old worker.new) }
-    ensures shards { OnOk result (store.new.shards ≡ store.old.shards) }
-    ensures counts { OnOk result (length store.old.entries < 2 ^ 62 → length store.new.entries < 2 ^ 62) }
-    ensures worked { OnOk result ((s : Setting F.Flight)
-        → IsRunBy s worker.old.incarnation worker.old.instance.lane packets.now (F.begins function.now) (F.asks function.now) (F.goes function.now)
-        → s.shards ≡ store.old.shards
-        → IsSettled s store.old.entries worker.old
-        → IsWorked s store.old.entries store.new.entries worker.old worker.new) }
-{
-    while turn(function, packets, store, worker)? {}
-    Ok(())
 }

@@ -1,4 +1,4 @@
 pub mod FirstForm
 pub mod Ending
-pub mod Alone
+pub mod OneLane
 pub mod Writing

@@ -3,14 +3,8 @@ use Rattle.std.specs.Prelude.{List, IsTrue}
 use Rattle.std.specs.List.{list_all}
 use Rattle.slnf_base.specs.declared.addresses.Pair.{Pair}
 use Rattle.slnf_lb.specs.Ranges.{is_pair}
-use Rattle.slnf_flight.specs.declared.lanes.Lane.{Lane}
-use Rattle.slnf_orch.specs.Plans.{IsAlone}
-use Rattle.slnf_top.proofs.Alone.{is_alone, outcome_if_ok}
+use Rattle.slnf_top.proofs.OneLane.{outcome_if_ok}
 use Rattle.slnf_top.proofs.steps.outcome_of.Goals as goal
-
-pub step_plan-requires-clause-alone : goal.step_plan-requires-clause-alone
-step_plan-requires-clause-alone c =
-    subst (λ (lanes : List Lane). IsAlone c.args.plan.now lanes) (sym c.from_ref.ensures.value) (is_alone c.args.plan.now c.args.lane.now c.requires.form)
 
 pub returns : goal.returns
 returns c =

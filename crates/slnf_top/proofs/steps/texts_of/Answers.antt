@@ -1,6 +1,6 @@
 use Rattle.std.proofs.Common.{◌≡◌, sym, ap, ◌∙◌, arith, length}
 use Rattle.slnf_top.specs.Written.{first_lane}
-use Rattle.slnf_top.proofs.Alone.{lane_packets, lane_length}
+use Rattle.slnf_top.proofs.OneLane.{lane_packets, lane_length}
 use Rattle.slnf_top.proofs.steps.texts_of.Goals as goal
 
 pub outcome_of-requires-clause-few : goal.outcome_of-requires-clause-few

@@ -1,0 +1,11 @@
+-- the workers so far are those of the first instances
+use Rattle.std.proofs.Common.{◌≡◌, length}
+use Rattle.slnf_orch.specs.Epochs.{EachAt}
+use Rattle.slnf_orch.specs.Ledger.{lists, IsMadeAt}
+use Rattle.slnf_orch.proofs.epochs.make_workers.Given as goal
+
+abbrev pub invariant-loop-number : goal.invariant-loop-number
+invariant-loop-number g l = record {
+  count : length l.workers.items ≡ l.number;
+  each : EachAt (IsMadeAt l.lanes (g.F.Function.begins l.function) (g.F.Function.asks l.function) (g.F.Function.goes l.function) l.base l.instances (lists l.ledger)) l.workers.items;
+}
