@@ -1,6 +1,7 @@
-#!/bin/sh
-# Times the proved store's parts (crates/slnf_store_bench, as `rt ci` or `rt run` built it) beside bench/store_plain.cpp, which
-# does the same work on std's hash map. Both have to print one checksum. Each time is the best of so many runs, in seconds.
+#!/usr/bin/env bash
+# Times the proved store's parts (crates/slnf_store_bench, as `rt ci` builds it) beside bench/store_plain.cpp, which does the
+# same work on std's hash map. Both have to print one checksum. The words: how many runs each, 5 where none is given. It prints
+# the best of the runs in seconds, as the clock has it and as processor time, which other work on the machine disturbs less.
 set -eu
 runs=${1:-5}
 top=$(cd "$(dirname "$0")/.." && pwd)
@@ -9,24 +10,30 @@ folder=$(mktemp -d)
 trap 'rm -rf "$folder"' EXIT
 plain=$folder/store_plain
 if [ ! -x "$proved" ]; then
-    echo "store.sh: build $proved first: run 'rt ci slnf_store_bench' at the top" >&2
+    echo "store.sh: crates/slnf_store_bench isn't built: 'rt ci' builds it, and so does 'rt run' in its folder" >&2
     exit 1
 fi
 "${CXX:-c++}" -std=c++17 -O3 -march=x86-64-v2 -o "$plain" "$top/bench/store_plain.cpp"
 
-# The nanoseconds of one run.
-one() {
-    begun=$(date +%s%N)
-    "$1" "$2" >/dev/null
-    ended=$(date +%s%N)
-    echo $((ended - begun))
+# The runs in turn, so that both programs meet the same load: a line for each, with its program's name and its three times.
+timed() {
+    TIMEFORMAT='%R %U %S'
+    for ((run = 0; run < runs; run++)); do
+        echo "proved $({ time "$proved" "$1" >/dev/null; } 2>&1)"
+        echo "plain $({ time "$plain" "$1" >/dev/null; } 2>&1)"
+    done
 }
 
-least() {
-    if [ "$1" -le "$2" ]; then echo "$1"; else echo "$2"; fi
+# The least clock time and the least processor time of each program.
+best() {
+    awk '
+        function least(old, new) { return old == "" || new < old ? new : old }
+        { clock[$1] = least(clock[$1], $2); processor[$1] = least(processor[$1], $3 + $4) }
+        END { print clock["proved"], clock["plain"], processor["proved"], processor["plain"] }'
 }
 
-printf '%10s %12s %12s %8s  %s\n' accesses proved plain ratio checksum
+printf '%10s  %17s  %17s\n' '' 'clock' 'processor'
+printf '%10s  %8s %8s  %8s %8s  %s\n' accesses proved plain proved plain checksum
 for accesses in 10000 100000 1000000; do
     said=$("$proved" "$accesses")
     expected=$("$plain" "$accesses")
@@ -34,15 +41,7 @@ for accesses in 10000 100000 1000000; do
         echo "store.sh: '$said' and '$expected' differ" >&2
         exit 1
     fi
-    best_proved=$(one "$proved" "$accesses")
-    best_plain=$(one "$plain" "$accesses")
-    run=1
-    # The two go in turn, so that both meet the same load.
-    while [ "$run" -lt "$runs" ]; do
-        best_proved=$(least "$best_proved" "$(one "$proved" "$accesses")")
-        best_plain=$(least "$best_plain" "$(one "$plain" "$accesses")")
-        run=$((run + 1))
-    done
-    awk -v n="$accesses" -v a="$best_proved" -v b="$best_plain" -v sum="${said##* }" \
-        'BEGIN { printf "%10d %12.4f %12.4f %8.2f  %s\n", n, a / 1e9, b / 1e9, a / b, sum }'
+    read -r clock_proved clock_plain processor_proved processor_plain < <(timed "$accesses" | best)
+    printf '%10d  %8.3f %8.3f  %8.3f %8.3f  %s\n' "$accesses" \
+        "$clock_proved" "$clock_plain" "$processor_proved" "$processor_plain" "${said##* }"
 done

@@ -94,9 +94,12 @@ static Request drawn(u64 word, u128 key, u64 version) {
     return {kind == 6 ? Kind::ReplaceIf : Kind::DeleteIf, key, version, word};
 }
 
-static std::vector<Entry> merged(std::vector<Bucket>& buckets) {
+static std::vector<Entry> merged(const std::vector<Bucket>& buckets) {
+    std::size_t count = 0;
+    for (const Bucket& bucket : buckets) count += bucket.entries.size();
     std::vector<Entry> all;
-    for (Bucket& bucket : buckets) all.insert(all.end(), bucket.entries.begin(), bucket.entries.end());
+    all.reserve(count);
+    for (const Bucket& bucket : buckets) all.insert(all.end(), bucket.entries.begin(), bucket.entries.end());
     std::stable_sort(all.begin(), all.end(), [](const Entry& a, const Entry& b) {
         return a.stamp != b.stamp ? a.stamp < b.stamp : a.shard < b.shard;
     });
