@@ -1,0 +1,9 @@
+pub mod Lists
+pub mod Lines
+pub mod Queue
+pub mod Tale
+pub mod Kin
+pub mod Keeps
+pub mod Ends
+pub mod Items
+pub mod Resting
