@@ -12,8 +12,8 @@ use Rattle.slnf_turns.specs.declared.views.Joined.{Joined}
 use Rattle.slnf_turns.specs.declared.views.View.{View}
 use Rattle.slnf_turns.specs.declared.views.Stage.{Stage}
 use Rattle.slnf_turns.specs.declared.views.Stage.TheVariants.{Free, Waits, Turn, Open, Spent}
-use Rattle.slnf_turns.specs.Views.{Begins, lines_of, part_of, seen_of, kept_of, list_in, first_view, spent_view}
-use Rattle.slnf_turns.specs.Values.{AreFresh, IsLast}
+use Rattle.slnf_turns.specs.Views.{Begins, lines_of, part_of, seen_of, kept_of, WasTold, list_in, first_view, spent_view}
+use Rattle.slnf_turns.specs.Values.{AreFresh, AreKept, IsLast}
 use Rattle.slnf_turns.specs.Rule.{Account, living_at, living, total, IsOpenAt, Knows, AreQueued, AreTold, IsKept, AreKin, Rule}
 use Rattle.slnf_turns.proofs.Lists.{one_at, within_at, all_map, total_set, total_at}
 use Rattle.slnf_turns.proofs.Lines.{if_ne}
@@ -128,6 +128,11 @@ module _ {B : Type 0} (lines : B → List Line) (place places : B → ℕ) where
         (λ past. kept_none (suc i) r.account.joined (all_map (IsKept r.account (length s.homes) s.views) (λ (x : Joined). x.listed.number ≢ suc i) r.account.joined (λ x h e. let w = h.within in omega arith) r.kin.kept) ∙ sym (r.tale.fresh (suc i) past))
         (λ inside. let x = within_at s.views (suc i) (omega arith) in r.kin.lists (suc i) x.0 x.1 (others_spent (suc i) x.0 x.1 (λ z. omega arith)))
 
+    pub all_kept : AreKept v
+    all_kept = subst (λ (z : List Joined). AllByRecursion (λ (x : Joined). (list_in x.listed.number v ≡ x.listed.lines) × WasTold v.before v.joined x.listed.number x.told) z) (sym root.2)
+        (all_map (IsKept r.account (length s.homes) s.views) (λ (x : Joined). (list_in x.listed.number v ≡ x.listed.lines) × WasTold v.before v.joined x.listed.number x.told) r.account.joined
+          (λ x h. (lists_are x.listed.number ∙ sym h.list, subst (λ (z : List (List ℕ) × List Joined). WasTold z.0 z.1 x.listed.number x.told) (λ i. (sym root.1 i, sym root.2 i)) h.told)) r.kin.kept)
+
     pub last_one : (k : ℕ) → k < length s.homes → (b : B) × (get_elem? s.homes k ≡ some (some (Some b))) × IsLast lines place places (length s.homes) v k b
     last_one k near = let h = r.queue.home k near (all_home k near) in (
       h.0,
@@ -147,3 +152,6 @@ module _ {B : Type 0} (lines : B → List Line) (place places : B → ℕ) where
       → (k : ℕ) → k < length xs → (b : B) × (get_elem? xs k ≡ some (Some b)) × IsLast lines place places (length xs) v k b
   ends id v ws xs number free all final k near = let s = final.0 in let o = last_one s final.1.0 id v final.1.1 number free all k (let l = final.3 in omega arith) in
       (o.0, final.4 k (Some o.0) o.1, subst (λ (m : ℕ). IsLast lines place places m v k o.0) final.3 o.2)
+
+  pub ends_kept : (id : ℕ) (v : View) (ws : List ℕ) (xs : List (Option B)) → v.number ≡ 0 → v.stage ≡ Free → length v.joined ≡ length v.before → Final (Seen R id v) ws xs → AreKept v
+  ends_kept id v ws xs number free all final = all_kept final.0 final.1.0 id v final.1.1 number free all

@@ -7,3 +7,4 @@ pub mod Keeps
 pub mod Ends
 pub mod Items
 pub mod Resting
+pub mod Laws

@@ -14,6 +14,10 @@ use Rattle.slnf_turns.specs.declared.views.Stage.TheVariants.{Free, Waits, Turn,
 abbrev pub Begins : {A : Type 0} → List A → List A → Type 0
 Begins {A} xs ys = (rest : List A) × (ys ≡ xs ++ rest)
 
+-- a line that says one number
+abbrev pub number_line : ℕ → ℕ → Line
+number_line i word = record { number = i; words = word ∷ [] }
+
 -- the lines of one number, in order
 abbrev pub lines_of : ℕ → List Line → List Line
 lines_of i [] = []

@@ -5,6 +5,8 @@ mod chronicles;
 mod passes;
 mod plays;
 mod rule;
+#[cfg(test)]
+mod tests;
 mod turns;
 mod views;
 

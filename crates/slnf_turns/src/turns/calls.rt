@@ -5,7 +5,7 @@ ghost use lib.ListN.{get_elem?};
 ghost use Rattle.std.specs.Slots.{slots_items, slots_len, slots_filled, IsFull};
 ghost use Rattle.slnf_turns.specs.declared.views.Line.{Line};
 ghost use Rattle.slnf_turns.specs.Views.{Begins, AllOf, noted, seen_of, WasTold, first_view, after_split, split_off, after_join};
-ghost use Rattle.slnf_turns.specs.Values.{AreFresh, AreLast};
+ghost use Rattle.slnf_turns.specs.Values.{AreFresh, AreKept, AreLast};
 ghost use Rattle.slnf_turns.specs.Passes.{view, shards, IsOf, IsRoot, HasNoTurn, HasTurn, KeepsKin, AllJoined, kept_view};
 
 use super::Turns;
@@ -145,6 +145,7 @@ impl<B: Chronicle> Turns<B> {
         ensures count { vec_len result.0 ≡ shards self }
         ensures values { AreLast B.lines B.place B.places (shards self) (view root) result.0.items }
         ensures kept { kept_view result.1 ≡ view root }
+        ensures joined { AreKept (view root) }
     {
         let Turns { table, mut room } = self;
         let Pass { seat } = root;
