@@ -1,12 +1,12 @@
 -- The rule at the start, and what it says at the end.
-use Rattle.std.proofs.Common.{◌≡◌, ◌≢◌, ℕ, zero, suc, ◌+◌, ◌*◌, ◌^◌, ◌<◌, ◌≤◌, List, [], ◌∷◌, map, length, get_or, set, sym, refl, ap, ◌∙◌, subst, ⊎_elim, inl, inr, ◌⊎◌, arith, Option, Some, slice_get, length-set}
+use Rattle.std.proofs.Common.{◌≡◌, ◌≢◌, ℕ, zero, suc, ◌+◌, ◌*◌, ◌<◌, List, [], ◌∷◌, map, length, get_or, set, sym, refl, ap, ◌∙◌, subst, ⊎_elim, inl, inr, ◌⊎◌, arith, Option, Some, slice_get}
 use Rattle.std.specs.List.{AllByRecursion}
 use mathlib.Core.Logic.{dite}
 use mathlib.Core.Option.{some, some-injective, some-ne-none}
 use native.Mathlib.Decide.{ℕ_discrete, dec_le}
 use lib.ListN.{get_elem?, length-map}
 use Rattle.atomic_table.specs.Table.{State, opening, Final, Seen}
-use Rattle.atomic_table.proofs.Lists.{at_set, set_else, at_map}
+use Rattle.atomic_table.proofs.Lists.{set_else, at_map}
 use Rattle.slnf_turns.specs.declared.views.Line.{Line}
 use Rattle.slnf_turns.specs.declared.views.Joined.{Joined}
 use Rattle.slnf_turns.specs.declared.views.View.{View}
@@ -14,7 +14,7 @@ use Rattle.slnf_turns.specs.declared.views.Stage.{Stage}
 use Rattle.slnf_turns.specs.declared.views.Stage.TheVariants.{Free, Waits, Turn, Open, Spent}
 use Rattle.slnf_turns.specs.Views.{Begins, lines_of, part_of, seen_of, kept_of, WasTold, list_in, first_view, spent_view}
 use Rattle.slnf_turns.specs.Values.{AreFresh, AreKept, IsLast}
-use Rattle.slnf_turns.specs.Rule.{Account, living_at, living, total, IsOpenAt, Knows, AreQueued, AreTold, IsKept, AreKin, Rule}
+use Rattle.slnf_turns.specs.Rule.{Account, living_at, living, IsOpenAt, Knows, IsKept, Rule}
 use Rattle.slnf_turns.proofs.Lists.{one_at, within_at, all_map, total_set, total_at}
 use Rattle.slnf_turns.proofs.Lines.{if_ne}
 use Rattle.slnf_turns.proofs.Keeps.{at_root}
@@ -73,6 +73,7 @@ module _ {B : Type 0} (lines : B → List Line) (place places : B → ℕ) where
           serving = λ k _. blank (32 * k + 16);
           queued = λ k _. refl;
           few = omega arith;
+          owned = λ k t _ _ high. absurd (omega arith);
           stages = λ j v e. subst (λ (w : View). Knows a (length (map some (map Some bs))) j w.stage) (only_first j v e).1 tt;
           apart = λ i j k t v w ev ew _ _. (only_first i v ev).0 ∙ sym (only_first j w ew).0;
           home = λ k l _. let here = both_at bs k (omega arith) in let f = fresh k here.0 here.2 in
@@ -131,7 +132,7 @@ module _ {B : Type 0} (lines : B → List Line) (place places : B → ℕ) where
     pub all_kept : AreKept v
     all_kept = subst (λ (z : List Joined). AllByRecursion (λ (x : Joined). (list_in x.listed.number v ≡ x.listed.lines) × WasTold v.before v.joined x.listed.number x.told) z) (sym root.2)
         (all_map (IsKept r.account (length s.homes) s.views) (λ (x : Joined). (list_in x.listed.number v ≡ x.listed.lines) × WasTold v.before v.joined x.listed.number x.told) r.account.joined
-          (λ x h. (lists_are x.listed.number ∙ sym h.list, subst (λ (z : List (List ℕ) × List Joined). WasTold z.0 z.1 x.listed.number x.told) (λ i. (sym root.1 i, sym root.2 i)) h.told)) r.kin.kept)
+        (λ x h. (lists_are x.listed.number ∙ sym h.list, subst (λ (z : List (List ℕ) × List Joined). WasTold z.0 z.1 x.listed.number x.told) (λ i. (sym root.1 i, sym root.2 i)) h.told)) r.kin.kept)
 
     pub last_one : (k : ℕ) → k < length s.homes → (b : B) × (get_elem? s.homes k ≡ some (some (Some b))) × IsLast lines place places (length s.homes) v k b
     last_one k near = let h = r.queue.home k near (all_home k near) in (

@@ -1,5 +1,5 @@
 -- The first slot in hand, and its value.
-use Rattle.std.proofs.Common.{◌≡◌, ℕ, zero, suc, ◌+◌, List, [], ◌∷◌, ◌++◌, map, take, set, get_or, replicate, Bool, false, Option, Some, None, ap, refl, sym, ◌∙◌, unwrap_or, add-one, arith}
+use Rattle.std.proofs.Common.{◌≡◌, ℕ, zero, suc, ◌+◌, List, [], ◌∷◌, ◌++◌, map, take, set, get_or, replicate, Bool, false, Option, Some, ap, refl, sym, ◌∙◌, unwrap_or, add-one}
 use mathlib.Core.Option.{some, some-injective, some-ne-none}
 use mathlib.Core.List.{map-append}
 use lib.ListN.{get_elem?}

@@ -1,20 +1,20 @@
 -- Each step keeps the rule of the table.
-use Rattle.std.proofs.Common.{◌≡◌, ◌≢◌, ℕ, zero, suc, ◌+◌, ◌-◌, ◌*◌, ◌%◌, ◌^◌, ◌<◌, ◌≤◌, eqb, List, [], ◌∷◌, ◌++◌, map, length, get_or, set, sym, refl, ap, ◌∙◌, subst, ⊎_elim, arith, Option, Some, unwrap_or, length-set, length-append, append-nil}
+use Rattle.std.proofs.Common.{◌≡◌, ◌≢◌, ℕ, ◌+◌, ◌-◌, ◌*◌, ◌%◌, ◌^◌, ◌<◌, List, [], ◌∷◌, ◌++◌, length, get_or, set, sym, refl, ap, ◌∙◌, subst, arith, Option, Some, unwrap_or, length-set, append-nil}
 use Rattle.std.specs.List.{AllByRecursion}
 use mathlib.Core.Logic.{dite}
 use mathlib.Core.Option.{none, some}
 use native.Mathlib.Decide.{ℕ_discrete}
 use lib.ListN.{get_elem?}
 use lib.Seq.{set-get_or}
-use Rattle.atomic_table.specs.Table.{State, Me, step, Act, keeps, takes, gives, stepped, Allows, Splits, Joins}
+use Rattle.atomic_table.specs.Table.{State, Me, step, keeps, takes, gives, Allows, Splits, Joins}
 use Rattle.atomic_table.proofs.Lists.{set_else, set_again, one_turn}
 use Rattle.slnf_turns.specs.declared.views.Line.{Line}
 use Rattle.slnf_turns.specs.declared.views.Joined.{Joined}
 use Rattle.slnf_turns.specs.declared.views.View.{View}
 use Rattle.slnf_turns.specs.declared.views.Stage.{Stage}
 use Rattle.slnf_turns.specs.declared.views.Stage.TheVariants.{Free, Waits, Turn, Open, Spent}
-use Rattle.slnf_turns.specs.Views.{Begins, AllOf, noted, seen_of, WasTold, staged, after_open, after_raise, after_split, split_off, after_join, joined_of, spent_view}
-use Rattle.slnf_turns.specs.Rule.{Account, queues_at, queues, living_at, living, HasTicket, IsOpenAt, Knows, AreQueued, AreTold, IsKept, AreKin, Rule}
+use Rattle.slnf_turns.specs.Views.{Begins, AllOf, seen_of, WasTold, staged, after_open, after_raise, after_split, split_off, after_join, spent_view}
+use Rattle.slnf_turns.specs.Rule.{queues_at, queues, living_at, living, HasTicket, IsOpenAt, Knows, AreTold, IsKept, AreKin, Rule}
 use Rattle.slnf_turns.specs.Steps.{drew, looked, opened, wrote, raised, learned}
 use Rattle.slnf_turns.proofs.Lists.{all_map}
 use Rattle.slnf_turns.proofs.Queue.{with_draw, with_open, with_raise, queue_same, queue_draws, queue_opens, queue_raises, queue_admits, requeued, at_home, near_tickets}
@@ -67,11 +67,11 @@ module _ {B : Type 0} (lines : B → List Line) (place places : B → ℕ) where
   loaded s i homes views r = subst (λ (ws : List ℕ). R record { words = ws; homes = homes; views = views }) (sym (set-get_or s.words i 0)) r
 
   restaged : (s : St) (r : R s) (me : ℕ) (v : View) (st : Stage) → get_elem? s.views me ≡ some v → living v ≡ 1 → living_at st ≡ 1 → ((k : ℕ) → queues_at k st ≡ queues k v)
-      → Knows r.account (length s.homes) me st → ((k t : ℕ) → HasTicket k t st → HasTicket k t v.stage) → ((k : ℕ) → IsOpenAt k v.stage → IsOpenAt k st)
+      → Knows r.account (length s.homes) me st → ((k t : ℕ) → HasTicket k t st → HasTicket k t v.stage) → ((k t : ℕ) → HasTicket k t v.stage → HasTicket k t st) → ((k : ℕ) → IsOpenAt k v.stage → IsOpenAt k st)
       → R record { words = s.words; homes = s.homes; views = set s.views me (staged v st) }
-  restaged s r me v st at lives lives' same known tickets opens = let a = r.account in record {
+  restaged s r me v st at lives lives' same known tickets back opens = let a = r.account in record {
     account = a;
-    queue = queue_same lines place places a s r.queue me v (staged v st) at same known tickets opens;
+    queue = queue_same lines place places a s r.queue me v (staged v st) at same known tickets back opens;
     tale = tale_same a a (length s.homes) s.views r.tale me v (staged v st) at (lives, refl, refl) (λ _. refl) (λ _. refl) (λ k near. r.tale.seen me k v at lives near);
     kin = kin_moves a a.drawn a.served a.holder a.published a.list_of (length s.homes) s.views r.kin me v (staged v st) at (lives, lives', refl, refl, refl) (λ i ls b. b) (λ i _. refl);
   }
@@ -102,14 +102,14 @@ module _ {B : Type 0} (lines : B → List Line) (place places : B → ℕ) where
         keeps,
         tt,
         loaded s i s.homes (set s.views id (staged me.0 (Turn k t))) (restaged s r id me.0 (Turn k t) at lives refl (λ j. sym (ap (queues_at j) waits)) (known, sym served)
-            (λ j u h. subst (HasTicket j u) (sym waits) h) (λ j is. absurd (subst (IsOpenAt j) waits is))),
+            (λ j u h. subst (HasTicket j u) (sym waits) h) (λ j u h. subst (HasTicket j u) waits h) (λ j is. absurd (subst (IsOpenAt j) waits is))),
         (refl, λ j u is. let same : (k, t) ≡ (j, u) = ap (ticket_or 0) (sym waits ∙ is) in ((λ _. ap (λ (z : ℕ × ℕ). staged me.0 (Turn z.0 z.1)) same), λ not. absurd (not (hit ∙ ap (λ (z : ℕ × ℕ). z.1 % 18446744073709551616) same)))),
       ))
       (λ miss. (
         me.0,
         keeps,
         tt,
-        loaded s i s.homes (set s.views id me.0) (restaged s r id me.0 me.0.stage at lives lives (λ j. refl) (r.queue.stages id me.0 at) (λ j u h. h) (λ j h. h)),
+        loaded s i s.homes (set s.views id me.0) (restaged s r id me.0 me.0.stage at lives lives (λ j. refl) (r.queue.stages id me.0 at) (λ j u h. h) (λ j u h. h) (λ j h. h)),
         (refl, λ j u is. let same : (k, t) ≡ (j, u) = ap (ticket_or 0) (sym waits ∙ is) in ((λ hit. absurd (miss (hit ∙ ap (λ (z : ℕ × ℕ). z.1 % 18446744073709551616) (sym same)))), λ _. refl)),
       ))
 
@@ -143,7 +143,7 @@ module _ {B : Type 0} (lines : B → List Line) (place places : B → ℕ) where
         keeps,
         tt,
         loaded s i s.homes (set s.views id w) (restaged s r id me.0 (Open k t base more) at lives refl (λ j. sym (ap (queues_at j) is_open)) (known.0, known.1, known.2, known.3, of_id)
-            (λ j u h. subst (HasTicket j u) (sym is_open) h) (λ j is. subst (IsOpenAt j) is_open is)),
+            (λ j u h. subst (HasTicket j u) (sym is_open) h) (λ j u h. subst (HasTicket j u) is_open h) (λ j is. subst (IsOpenAt j) is_open is)),
         (
           refl,
           λ j u old new c is has is_new.
@@ -193,7 +193,7 @@ module _ {B : Type 0} (lines : B → List Line) (place places : B → ℕ) where
       let a = r.account in let n : ℕ = length s.homes in let first = at_root s r id v at number lives in
       let at0 : get_elem? s.views 0 ≡ some v = subst (λ (i : ℕ). get_elem? s.views i ≡ some v) first at in let root = r.kin.root v at0 in
       let same : length v.before ≡ length a.before = ap (λ (l : List (List ℕ)). length l) root.1 in let c = r.kin.counted in let len = length-set s.views 0 (after_split v) in
-      let q = queue_same lines place places a s r.queue 0 v (after_split v) at0 (λ _. refl) (r.queue.stages 0 v at0) (λ _ _ h. h) (λ _ h. h) in
+      let q = queue_same lines place places a s r.queue 0 v (after_split v) at0 (λ _. refl) (r.queue.stages 0 v at0) (λ _ _ h. h) (λ _ _ h. h) (λ _ h. h) in
       let q' = queue_admits lines place places a record { words = s.words; homes = s.homes; views = set s.views 0 (after_split v) } q (split_off v) refl (omega arith) in
       subst (λ (i : ℕ). R record { words = s.words; homes = s.homes; views = set s.views i (after_split v) ++ split_off v ∷ [] }) (sym first) record {
         account = with_split a;
@@ -209,9 +209,9 @@ module _ {B : Type 0} (lines : B → List Line) (place places : B → ℕ) where
       let at0 : get_elem? s.views 0 ≡ some v = subst (λ (i : ℕ). get_elem? s.views i ≡ some v) first at in let other0 : other ≢ 0 = λ e. apart (e ∙ sym first) in let lives' : living u ≡ 1 = ap living_at free in
       let there0 : get_elem? (set s.views 0 both) other ≡ some u = subst (λ (i : ℕ). get_elem? (set s.views i both) other ≡ some u) first there in
       let there1 : get_elem? s.views other ≡ some u = sym (set_else s.views 0 other both other0) ∙ there0 in
-      let q = queue_same lines place places a s r.queue 0 v both at0 (λ _. refl) (r.queue.stages 0 v at0) (λ _ _ h. h) (λ _ h. h) in
+      let q = queue_same lines place places a s r.queue 0 v both at0 (λ _. refl) (r.queue.stages 0 v at0) (λ _ _ h. h) (λ _ _ h. h) (λ _ h. h) in
       let s' : St = record { words = s.words; homes = s.homes; views = set s.views 0 both } in
-      let q' = queue_same lines place places a s' q other u spent_view there0 (λ k. sym (ap (queues_at k) free)) tt (λ _ _ h. absurd h) (λ k h. absurd (subst (IsOpenAt k) free h)) in
+      let q' = queue_same lines place places a s' q other u spent_view there0 (λ k. sym (ap (queues_at k) free)) tt (λ _ _ h. absurd h) (λ k t h. absurd (subst (HasTicket k t) free h)) (λ k h. absurd (subst (IsOpenAt k) free h)) in
       subst (λ (i : ℕ). R record { words = s.words; homes = s.homes; views = set (set s.views i both) other spent_view }) (sym first) record {
         account = with_join a u;
         queue = requeued lines place places a (with_join a u).before (with_join a u).joined record { words = s.words; homes = s.homes; views = set (set s.views 0 both) other spent_view } q';

@@ -1,20 +1,18 @@
 -- What each step makes of the splits and the joins.
-use Rattle.std.proofs.Common.{◌≡◌, ◌≢◌, ℕ, zero, suc, ◌+◌, ◌-◌, ◌<◌, ◌≤◌, List, [], ◌∷◌, ◌++◌, map, length, set, sym, refl, ap, ap₂, ◌∙◌, subst, ⊎_elim, arith, length-set, length-append, slice_get, Some}
-use Rattle.std.specs.List.{AllByRecursion}
+use Rattle.std.proofs.Common.{◌≡◌, ◌≢◌, ℕ, ◌-◌, ◌<◌, List, [], ◌∷◌, ◌++◌, map, length, set, sym, refl, ap, ap₂, ◌∙◌, subst, ⊎_elim, arith, length-set, length-append, Some}
 use mathlib.Core.Logic.{dite}
 use mathlib.Core.Option.{some}
 use mathlib.Core.List.{map-append}
 use native.Mathlib.Decide.{ℕ_discrete}
 use lib.ListN.{get_elem?}
-use Rattle.atomic_table.proofs.Lists.{at_set, set_here, set_else}
+use Rattle.atomic_table.proofs.Lists.{set_here, set_else}
 use Rattle.slnf_turns.specs.declared.views.Line.{Line}
 use Rattle.slnf_turns.specs.declared.views.Noted.{Noted}
 use Rattle.slnf_turns.specs.declared.views.Listed.{Listed}
 use Rattle.slnf_turns.specs.declared.views.Joined.{Joined}
 use Rattle.slnf_turns.specs.declared.views.View.{View}
-use Rattle.slnf_turns.specs.declared.views.Stage.TheVariants.{Free}
 use Rattle.slnf_turns.specs.Views.{Begins, seen_of, kept_of, listed, number_of, WasTold, after_split, split_off, joined_of, after_join, spent_view}
-use Rattle.slnf_turns.specs.Rule.{Account, living, total, AreTold, IsKept, AreKin}
+use Rattle.slnf_turns.specs.Rule.{Account, living, AreTold, IsKept, AreKin}
 use Rattle.slnf_turns.proofs.Lists.{at_end, at_within, one_at, get_more, get_last, begins_refl, begins_more, all_map, all_snoc, map_twice, total_set, total_snoc}
 use Rattle.slnf_turns.proofs.Lines.{kept_else, kept_last}
 use Rattle.slnf_turns.proofs.Queue.{views_stay}

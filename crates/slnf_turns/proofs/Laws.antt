@@ -3,7 +3,6 @@ use Rattle.std.proofs.Common.{◌≡◌, ◌⊎◌, inl, inr, ⊎_elim, ℕ, zer
 use Rattle.slnf_turns.specs.declared.views.Line.{Line}
 use Rattle.slnf_turns.specs.Values.{AreFresh}
 use Rattle.slnf_turns.proofs.Items.{same_value}
-
 pub use Rattle.slnf_turns.proofs.Lines.{lines_of_append, lines_of_all, lines_of_none, part_of_append, part_here, part_else}
 pub use Rattle.slnf_turns.proofs.Lists.{begins_refl, begins_more, begins_trans}
 

@@ -3,9 +3,8 @@ use Rattle.std.proofs.Common.{◌≡◌, ◌≢◌, ℕ, List, [], ◌∷◌, �
 use Rattle.std.specs.List.{AllByRecursion}
 use Rattle.slnf_turns.specs.declared.views.Line.{Line}
 use Rattle.slnf_turns.specs.declared.views.Noted.{Noted}
-use Rattle.slnf_turns.specs.declared.views.Sight.{Sight}
 use Rattle.slnf_turns.specs.declared.views.Joined.{Joined}
-use Rattle.slnf_turns.specs.Views.{lines_of, AllOf, part_of, noted, seen_of, sight, kept_of}
+use Rattle.slnf_turns.specs.Views.{lines_of, AllOf, part_of, noted, kept_of}
 
 pub if_eq : {A : Type 0} (a b : ℕ) (x y : A) → a ≡ b → cond (eqb a b) x y ≡ x
 if_eq a b x y e = ap (λ t. cond t x y) (eq-eqb a b e)

@@ -1,5 +1,5 @@
 -- What each step makes of the words, the tickets and the slots.
-use Rattle.std.proofs.Common.{◌≡◌, ◌≢◌, ℕ, zero, suc, pred, ◌+◌, ◌*◌, ◌%◌, ◌^◌, ◌<◌, ◌≤◌, eqb, cond, List, [], ◌∷◌, ◌++◌, length, get_or, set, sym, refl, ap, ◌∙◌, subst, ⊎_elim, inl, inr, arith, Option, Some, unwrap_or, length-set, length-append, get_or-set_other, get_or-set_same}
+use Rattle.std.proofs.Common.{◌≡◌, ◌≢◌, ℕ, zero, suc, ◌+◌, ◌*◌, ◌%◌, ◌^◌, ◌<◌, ◌≤◌, eqb, cond, List, [], ◌∷◌, ◌++◌, length, get_or, set, sym, refl, ap, ◌∙◌, subst, ⊎_elim, arith, Option, Some, unwrap_or, length-set, length-append, get_or-set_other, get_or-set_same}
 use mathlib.Core.Logic.{dite}
 use mathlib.Core.Option.{none, some, some-injective}
 use mathlib.Core.Option as maybe
@@ -12,8 +12,8 @@ use Rattle.slnf_turns.specs.declared.views.Joined.{Joined}
 use Rattle.slnf_turns.specs.declared.views.View.{View}
 use Rattle.slnf_turns.specs.declared.views.Stage.{Stage}
 use Rattle.slnf_turns.specs.declared.views.Stage.TheVariants.{Free, Waits, Turn, Open, Spent}
-use Rattle.slnf_turns.specs.Views.{AllOf, noted, staged, after_open, after_raise}
-use Rattle.slnf_turns.specs.Rule.{Account, queues_at, queues, total, HasTicket, IsOpenAt, IsQueued, Knows, AreQueued}
+use Rattle.slnf_turns.specs.Views.{noted, staged, after_open, after_raise}
+use Rattle.slnf_turns.specs.Rule.{Account, queues_at, queues, total, HasTicket, IsOwned, IsOpenAt, IsQueued, Knows, AreQueued}
 use Rattle.slnf_turns.proofs.Lists.{put, put_here, put_else, one_at, at_within, total_set, total_snoc, total_most}
 use Rattle.slnf_turns.proofs.Lines.{if_eq, if_ne}
 
@@ -96,6 +96,11 @@ module _ {B : Type 0} (lines : B → List Line) (place places : B → ℕ) where
   abbrev IsOut : Homes → List View → ℕ → ℕ → Type 0
   IsOut homes views k j = (get_elem? homes k ≡ some none) × (v : View) × (get_elem? views j ≡ some v) × IsOpenAt k v.stage
 
+  own_stays : (vs : List View) (me k t : ℕ) (v w : View) → get_elem? vs me ≡ some v → (HasTicket k t v.stage → HasTicket k t w.stage) → IsOwned vs k t → IsOwned (set vs me w) k t
+  own_stays vs me k t v w at stays o = dite (ℕ_discrete o.0 me)
+      (λ e. (me, w, set_here vs me w (at_within vs me v at), stays (subst (λ (z : View). HasTicket k t z.stage) (one_at vs me o.1 v (subst (λ (i : ℕ). get_elem? vs i ≡ some o.1) e o.2) at) o.3)))
+      (λ other. (o.0, o.1, set_else vs me o.0 w other ∙ o.2, o.3))
+
   -- a step of the view me, from v to w
   moved : (a a' : Account) (s : St) (q : Q a s) (words' : List ℕ) (homes' : Homes) (me : ℕ) (v w : View) → get_elem? s.views me ≡ some v
       → length words' ≡ length s.words → length homes' ≡ length s.homes
@@ -105,10 +110,11 @@ module _ {B : Type 0} (lines : B → List Line) (place places : B → ℕ) where
       → Knows a' (length s.homes) me w.stage
       → ((j : ℕ) (x : View) → j ≢ me → get_elem? s.views j ≡ some x → Knows a (length s.homes) j x.stage → Knows a' (length s.homes) j x.stage)
       → ((k t j : ℕ) (x : View) → j ≢ me → get_elem? s.views j ≡ some x → HasTicket k t w.stage → HasTicket k t x.stage → ⊥)
+      → ((k t : ℕ) → k < length s.homes → a'.served k ≤ t → t < a'.drawn k → IsOwned (set s.views me w) k t)
       → ((k : ℕ) → k < length s.homes → a'.holder k ≡ 0 → IsHome a' homes' k)
       → ((k j : ℕ) → k < length s.homes → a'.holder k ≡ suc j → IsOut homes' (set s.views me w) k j)
       → Q a' record { words = words'; homes = homes'; views = set s.views me w }
-  moved a a' s q words' homes' me v w at as_wide as_long tick serv count mine others lone home out = record {
+  moved a a' s q words' homes' me v w at as_wide as_long tick serv count mine others lone owns home out = record {
     wide = as_wide ∙ (q.wide ∙ ap (λ (m : ℕ). 32 * m) (sym as_long));
     tickets = λ k l. tick k (omega arith);
     serving = λ k l. serv k (omega arith);
@@ -120,6 +126,7 @@ module _ {B : Type 0} (lines : B → List Line) (place places : B → ℕ) where
         (λ (r : (j ≢ me) × (get_elem? s.views j ≡ some y)). absurd (lone k t j y r.0 r.1 (subst (λ (z : View). HasTicket k t z.stage) (sym p.1) hx) hy)) (at_set s.views me j w y ey))
         (λ (p : (i ≢ me) × (get_elem? s.views i ≡ some x)). ⊎_elim (λ (r : (j ≡ me) × (w ≡ y)). absurd (lone k t i x p.0 p.1 (subst (λ (z : View). HasTicket k t z.stage) (sym r.1) hy) hx))
         (λ (r : (j ≢ me) × (get_elem? s.views j ≡ some y)). q.apart i j k t x y p.1 r.1 hx hy) (at_set s.views me j w y ey)) (at_set s.views me i w x ex);
+    owned = λ k t l low high. owns k t (omega arith) low high;
     home = λ k l h. home k (omega arith) h;
     out = λ k j l h. out k j (omega arith) h;
   }
@@ -138,11 +145,12 @@ module _ {B : Type 0} (lines : B → List Line) (place places : B → ℕ) where
 
   -- a step that changes no word and no slot, and keeps the ticket
   pub queue_same : (a : Account) (s : St) (q : Q a s) (me : ℕ) (v w : View) → get_elem? s.views me ≡ some v → ((k : ℕ) → queues k w ≡ queues k v) → Knows a (length s.homes) me w.stage
-      → ((k t : ℕ) → HasTicket k t w.stage → HasTicket k t v.stage) → ((k : ℕ) → IsOpenAt k v.stage → IsOpenAt k w.stage)
+      → ((k t : ℕ) → HasTicket k t w.stage → HasTicket k t v.stage) → ((k t : ℕ) → HasTicket k t v.stage → HasTicket k t w.stage) → ((k : ℕ) → IsOpenAt k v.stage → IsOpenAt k w.stage)
       → Q a record { words = s.words; homes = s.homes; views = set s.views me w }
-  queue_same a s q me v w at same known tickets opens = moved a a s q s.words s.homes me v w at refl refl q.tickets q.serving
+  queue_same a s q me v w at same known tickets back opens = moved a a s q s.words s.homes me v w at refl refl q.tickets q.serving
       (λ k l. let h = q.queued k l in let e = same k in omega arith) known (λ j x _ _ z. z)
-      (λ k t j x other there hw hx. other (q.apart j me k t x v there at hx (tickets k t hw))) q.home
+      (λ k t j x other there hw hx. other (q.apart j me k t x v there at hx (tickets k t hw)))
+      (λ k t l low high. own_stays s.views me k t v w at (back k t) (q.owned k t l low high)) q.home
       (λ k j l h. let o = q.out k j l h in out_stays s.homes s.views me k j v w o.1 o.0 at o.2 o.3 (opens k))
 
   drawn_more : (a : Account) (k n j t : ℕ) → IsQueued a n j t → IsQueued (with_draw a k) n j t
@@ -178,6 +186,11 @@ module _ {B : Type 0} (lines : B → List Line) (place places : B → ℕ) where
       (near, omega arith, let p = put_here a.drawn k (a.drawn k + 1) k refl in omega arith)
       (λ j u _ _ h. drawn_known a k (length s.homes) j u.stage h)
       (λ j t i u _ there mine his. let h = ticket_queued a (length s.homes) i j t u.stage (q.stages i u there) his in let b = h.2 in let c = ap a.drawn mine.0 in let d = mine.1 in omega arith)
+      (λ j u l low high. dite (ℕ_discrete j k)
+      (λ e. dite (ℕ_discrete u (a.drawn k))
+      (λ e'. (me, staged v (Waits k (a.drawn k)), set_here s.views me (staged v (Waits k (a.drawn k))) (at_within s.views me v at), (sym e, sym e')))
+      (λ other. let p = put_here a.drawn k (a.drawn k + 1) j e in let c = ap a.drawn e in own_stays s.views me j u v (staged v (Waits k (a.drawn k))) at (λ has. absurd (subst (HasTicket j u) free has)) (q.owned j u l low (omega arith))))
+      (λ other. let p = put_else a.drawn k (a.drawn k + 1) j other in own_stays s.views me j u v (staged v (Waits k (a.drawn k))) at (λ has. absurd (subst (HasTicket j u) free has)) (q.owned j u l low (omega arith))))
       q.home
       (λ j i l h. let o = q.out j i l h in out_stays s.homes s.views me j i v (staged v (Waits k (a.drawn k))) o.1 o.0 at o.2 o.3 (λ is. absurd (subst (IsOpenAt j) free is)))
 
@@ -217,6 +230,7 @@ module _ {B : Type 0} (lines : B → List Line) (place places : B → ℕ) where
       (known.0, known.1, here, now, tt)
       (λ j x other there' h. open_known a k me (length s.homes) j x.stage idle h)
       (λ i u j x other there' hw hx. other (q.apart j me i u x v there' at hx (subst (HasTicket i u) (sym turn) hw)))
+      (λ i u l low high. own_stays s.views me i u v w at (λ has. subst (HasTicket i u) turn has) (q.owned i u l low high))
       (λ i l h. let apart : i ≢ k = λ e. let z = put_here a.holder k (suc me) i e in omega arith in let o = q.home i l (sym (put_else a.holder k (suc me) i apart) ∙ h) in
       (o.0, set_else s.homes k i none apart ∙ o.1, o.2, o.3 ∙ sym (length-set s.homes k none), o.4))
       (λ i j l h. dite (ℕ_discrete i k)
@@ -272,6 +286,11 @@ module _ {B : Type 0} (lines : B → List Line) (place places : B → ℕ) where
       tt
       (λ j u other there h. raise_known a k me base more (length s.homes) j u.stage (λ his. other (q.apart j me k (a.served k) u v there at his mine)) h)
       (λ j u i z other there hw hz. absurd hw)
+      (λ i u l low high.
+      let later : (i ≡ k → u ≢ a.served k) × (a.served i ≤ u) = dite (ℕ_discrete i k)
+      (λ e. let p = put_here a.served k (a.served k + 1) i e in let d = ap a.served e in ((λ _ z. omega arith), omega arith))
+      (λ other. let p = put_else a.served k (a.served k + 1) i other in ((λ e. absurd (other e)), omega arith)) in
+      own_stays s.views me i u v w at (λ has. let h : HasTicket i u (Open k t base more) = subst (HasTicket i u) opened has in absurd (later.0 (sym h.0) (sym h.1 ∙ known.1))) (q.owned i u l later.1 high))
       (λ i l h. dite (ℕ_discrete i k)
       (λ e. (
         b,
@@ -296,6 +315,7 @@ module _ {B : Type 0} (lines : B → List Line) (place places : B → ℕ) where
     apart = λ i j k t x y ex ey hx hy. ⊎_elim (λ (p : get_elem? s.views i ≡ some x). ⊎_elim (λ (r : get_elem? s.views j ≡ some y). q.apart i j k t x y p r hx hy)
         (λ (r : w ≡ y). absurd (subst (HasTicket k t) (sym (ap (λ (z : View). z.stage) r) ∙ free) hy)) (at_snoc s.views w y j ey))
         (λ (p : w ≡ x). absurd (subst (HasTicket k t) (sym (ap (λ (z : View). z.stage) p) ∙ free) hx)) (at_snoc s.views w x i ex);
+    owned = λ k t l low high. let o = q.owned k t l low high in (o.0, o.1, at_longer s.views (w ∷ []) o.0 o.1 o.2, o.3);
     home = q.home;
     out = λ k j l h. let o = q.out k j l h in (o.0, o.1, at_longer s.views (w ∷ []) j o.1 o.2, o.3);
   }
@@ -315,6 +335,7 @@ module _ {B : Type 0} (lines : B → List Line) (place places : B → ℕ) where
     queued = q.queued;
     few = q.few;
     stages = λ j v e. same_known a before joined (length s.homes) j v.stage (q.stages j v e);
+    owned = q.owned;
     apart = q.apart;
     home = q.home;
     out = q.out;

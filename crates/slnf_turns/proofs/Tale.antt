@@ -1,16 +1,14 @@
 -- What each step makes of the lists of lines.
-use Rattle.std.proofs.Common.{◌≡◌, ◌≢◌, ℕ, zero, suc, ◌+◌, ◌<◌, ◌≤◌, eqb, cond, List, [], ◌∷◌, ◌++◌, length, set, sym, refl, ap, ap₂, ◌∙◌, subst, ⊎_elim, arith, length-set, length-append, append-nil}
+use Rattle.std.proofs.Common.{◌≡◌, ◌≢◌, ℕ, ◌<◌, ◌≤◌, List, [], ◌∷◌, ◌++◌, length, set, sym, refl, ap, ap₂, ◌∙◌, subst, ⊎_elim, arith, length-set, length-append, append-nil}
 use mathlib.Core.Logic.{dite}
 use mathlib.Core.Option.{some}
 use native.Mathlib.Decide.{ℕ_discrete}
 use lib.ListN.{get_elem?}
-use Rattle.atomic_table.proofs.Lists.{at_set, at_snoc}
 use Rattle.slnf_turns.specs.declared.views.Line.{Line}
-use Rattle.slnf_turns.specs.declared.views.Noted.{Noted}
 use Rattle.slnf_turns.specs.declared.views.View.{View}
 use Rattle.slnf_turns.specs.Views.{Begins, lines_of, AllOf, part_of, noted, sight, seen_of}
 use Rattle.slnf_turns.specs.Rule.{Account, living, AreTold}
-use Rattle.slnf_turns.proofs.Lists.{put, put_here, put_else, at_end, begins_refl, begins_more, at_within}
+use Rattle.slnf_turns.proofs.Lists.{put_here, put_else, at_end, begins_refl, begins_more, at_within}
 use Rattle.slnf_turns.proofs.Lines.{if_eq, if_ne, lines_of_append, part_of_append, lines_of_all, lines_of_none, part_here, part_else}
 use Rattle.slnf_turns.proofs.Queue.{views_stay, with_raise}
 

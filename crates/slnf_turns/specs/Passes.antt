@@ -1,5 +1,5 @@
 -- What contracts say of a pass, and of the turns that it belongs to.
-use Rattle.std.specs.Prelude.{◌≡◌, ℕ, ◌-◌, List, [], ◌∷◌, length, slice_get, Option, Some}
+use Rattle.std.specs.Prelude.{◌≡◌, ℕ, ◌-◌, List, [], ◌∷◌, length, slice_get, Option}
 use Rattle.slnf_turns.specs.declared.views.Line.{Line}
 use Rattle.slnf_turns.specs.declared.views.Noted.{Noted}
 use Rattle.slnf_turns.specs.declared.views.View.{View}

@@ -1,5 +1,5 @@
 -- The rule of the table, which holds between any two steps.
-use Rattle.std.specs.Prelude.{◌≡◌, ◌≢◌, ℕ, suc, ◌+◌, ◌*◌, ◌%◌, ◌^◌, ◌<◌, ◌≤◌, ◌==◌, if◌then◌else◌, List, [], ◌∷◌, ◌++◌, length, slice_index, Option, Some}
+use Rattle.std.specs.Prelude.{◌≡◌, ◌≢◌, ℕ, suc, ◌+◌, ◌*◌, ◌%◌, ◌^◌, ◌<◌, ◌≤◌, ◌==◌, if◌then◌else◌, List, [], ◌∷◌, length, slice_index, Option, Some}
 use Rattle.std.specs.List.{AllByRecursion}
 use mathlib.Core.Option.{none, some}
 use lib.ListN.{get_elem?}
@@ -60,6 +60,10 @@ HasTicket k t (Turn j u) = (j ≡ k) × (u ≡ t)
 HasTicket k t (Open j u base more) = (j ≡ k) × (u ≡ t)
 HasTicket k t Spent = ⊥
 
+-- some pass has this ticket of this shard
+abbrev pub IsOwned : List View → ℕ → ℕ → Type 0
+IsOwned views k t = (j : ℕ) × (v : View) × (get_elem? views j ≡ some v) × HasTicket k t v.stage
+
 abbrev pub IsOpenAt : ℕ → Stage → Type 0
 IsOpenAt k Free = ⊥
 IsOpenAt k (Waits j t) = ⊥
@@ -90,7 +94,8 @@ module _ {B : Type 0} (lines : B → List Line) (place places : B → ℕ) where
     pub queued : (k : ℕ) → k < length s.homes → a.drawn k ≡ a.served k + total (queues k) s.views
     pub few : length s.views < 2 ^ 32
     pub stages : (j : ℕ) (v : View) → get_elem? s.views j ≡ some v → Knows a (length s.homes) j v.stage
-    -- no ticket is out twice
+    -- each ticket that is out is some pass's, and no two passes have one
+    pub owned : (k t : ℕ) → k < length s.homes → a.served k ≤ t → t < a.drawn k → IsOwned s.views k t
     pub apart : (i j k t : ℕ) (v w : View) → get_elem? s.views i ≡ some v → get_elem? s.views j ≡ some w → HasTicket k t v.stage → HasTicket k t w.stage → i ≡ j
     -- a shard that nobody has open is at home, with the published lines
     pub home : (k : ℕ) → k < length s.homes → a.holder k ≡ 0 → (b : B) × (get_elem? s.homes k ≡ some (some (Some b))) × (place b ≡ k) × (places b ≡ length s.homes) × (lines b ≡ a.published k)

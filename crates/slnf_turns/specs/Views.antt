@@ -8,7 +8,7 @@ use Rattle.slnf_turns.specs.declared.views.Listed.{Listed}
 use Rattle.slnf_turns.specs.declared.views.Joined.{Joined}
 use Rattle.slnf_turns.specs.declared.views.View.{View}
 use Rattle.slnf_turns.specs.declared.views.Stage.{Stage}
-use Rattle.slnf_turns.specs.declared.views.Stage.TheVariants.{Free, Waits, Turn, Open, Spent}
+use Rattle.slnf_turns.specs.declared.views.Stage.TheVariants.{Free, Open, Spent}
 
 -- xs is a prefix of ys
 abbrev pub Begins : {A : Type 0} → List A → List A → Type 0

@@ -68,12 +68,7 @@ fn one_turn<R: Wait>(
     turns.give(pass, held);
 }
 
-fn work<R: Wait>(
-    rt: &R,
-    turns: &Turns<Ledger>,
-    mut pass: Pass<Ledger>,
-    number: u64,
-) -> Pass<Ledger>
+fn work<R: Wait>(rt: &R, turns: &Turns<Ledger>, mut pass: Pass<Ledger>, number: u64) -> Pass<Ledger>
     requires turns { IsOf turns.now pass × (shards turns.now ≡ 3) }
     requires pass { HasNoTurn (view pass) × ((view pass).number ≡ number) }
     ensures { IsOf turns.now result × HasNoTurn (view result) }

@@ -13,9 +13,9 @@ mod steps;
 /// One value for each shard, with a ticket lock of its own.
 #[derive(Drop)]
 pub struct Turns<B: Chronicle> {
-    pub(crate) table: Table<Option<B>, View, (), Law, Global>,
+    table: Table<Option<B>, View, (), Law, Global>,
     // The vector that `make` was given, for the values at the end.
-    pub(crate) room: Vec<B>,
+    room: Vec<B>,
     ghost wide: { table.shared.table_id.words ≡ 32 * table.shared.table_id.slots },
     ghost count: { (0 < table.shared.table_id.slots) × (table.shared.table_id.slots ≤ 64) },
     ghost empty: { (room.items ≡ []) × (table.shared.table_id.slots ≤ vec_capacity room) },

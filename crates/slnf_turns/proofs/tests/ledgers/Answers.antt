@@ -1,4 +1,4 @@
-use Rattle.std.proofs.Common.{◌≡◌, ℕ, ◌+◌, vec_len, map, length, refl, sym, ap, ◌∙◌, subst, rules, arith, length-append, List, [], ◌∷◌, ◌++◌}
+use Rattle.std.proofs.Common.{◌≡◌, ℕ, vec_len, map, length, refl, sym, ap, ◌∙◌, subst, rules, arith, length-append, List, [], ◌∷◌, ◌++◌}
 use Rattle.slnf_turns.specs.declared.tests.Ledger.{Ledger}
 use Rattle.slnf_turns.specs.Views.{number_line}
 use Rattle.slnf_turns.specs.Values.{AreFresh}
@@ -11,7 +11,7 @@ loop-place-preserved c =
     let grown : c.push.new.self.items ≡ old ++ b ∷ [] = c.in_ok-push.ensures.items in (
       ap (λ l. length l) grown ∙ (let h = length-append old (b ∷ []) in let k = i.0 in omega arith),
       subst (AreFresh (λ (ledger : Ledger). map (λ line. number_line line.0 line.1) ledger.lines.items) (λ ledger. ledger.place) (λ _. 3) 3) (sym grown)
-        (fresh_more (λ (ledger : Ledger). map (λ line. number_line line.0 line.1) ledger.lines.items) (λ ledger. ledger.place) (λ _. 3) 3 old b i.1
+          (fresh_more (λ (ledger : Ledger). map (λ line. number_line line.0 line.1) ledger.lines.items) (λ ledger. ledger.place) (λ _. 3) 3 old b i.1
           (ap (λ (l : List (ℕ × ℕ)). map (λ line. number_line line.0 line.1) l) c.new.ensures.items) (sym i.0) refl),
     )
 

@@ -1,7 +1,7 @@
-use Rattle.std.proofs.Common.{rules, ◌≡◌, ◌<◌, ℕ, length, map, Option, Some, sym, ap, ◌∙◌, subst, arith}
+use Rattle.std.proofs.Common.{◌≡◌, ◌<◌, ℕ, length, Some, sym, ap, ◌∙◌, subst}
 use mathlib.Core.Option.{some}
 use lib.ListN.{get_elem?}
-use Rattle.std.specs.Slots.{slots_items, slots_len, slots_counts}
+use Rattle.std.specs.Slots.{slots_items, slots_counts}
 use Rattle.atomic_table.proofs.Lists.{at_map}
 use Rattle.slnf_turns.specs.declared.views.View.{View}
 use Rattle.slnf_turns.specs.Values.{AreKept, IsLast}
@@ -30,4 +30,4 @@ pub returns-clause-joined : goal.returns-clause-joined
 returns-clause-joined g c = let v = c.args.root.seat.me.0 in
     let same : c.into_seat.result.me.0 ≡ v = same_one _ _ _ c.into_seat.ensures.2 c.into_badge-badge.ensures.2 in
     subst AreKept same (ends_kept g.B.Chronicle.lines g.B.Chronicle.place g.B.Chronicle.places _ c.into_seat.result.me.0 _ (slots_items c.close_with-closed.result.slots) (ap (λ (z : View). z.number) same ∙ c.requires.root)
-      (ap (λ (z : View). z.stage) same ∙ c.requires.free) (ap (λ (z : View). length z.joined) same ∙ (c.requires.joined ∙ ap (λ (z : View). length z.before) (sym same))) c.close_with-closed.ensures.values.2)
+    (ap (λ (z : View). z.stage) same ∙ c.requires.free) (ap (λ (z : View). length z.joined) same ∙ (c.requires.joined ∙ ap (λ (z : View). length z.before) (sym same))) c.close_with-closed.ensures.values.2)

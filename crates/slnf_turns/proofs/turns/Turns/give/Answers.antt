@@ -1,5 +1,5 @@
-use Rattle.std.proofs.Common.{rules, ◌≡◌, ◌<◌, ap, ◌∙◌, refl, sym, subst, cond, eqb}
-use Rattle.slnf_turns.proofs.Resting.{rests_free, open_inside, in_hand}
+use Rattle.std.proofs.Common.{rules, ◌<◌, ap, ◌∙◌, sym, subst, cond, eqb}
+use Rattle.slnf_turns.proofs.Resting.{rests_free, open_inside}
 use Rattle.slnf_turns.specs.Views.{seen_of}
 use Rattle.slnf_turns.proofs.turns.Turns.give.Goals as goal
 

@@ -1,4 +1,4 @@
-use Rattle.std.proofs.Common.{rules, ◌≡◌, ◌<◌, ◌*◌, ℕ, length, map, get_or, replicate, Option, Some, sym, ap, ◌∙◌, subst, arith}
+use Rattle.std.proofs.Common.{rules, ◌≡◌, ℕ, length, get_or, sym, ap, ◌∙◌, subst}
 use Rattle.slnf_turns.specs.Values.{AreFresh}
 use Rattle.slnf_turns.proofs.Ends.{starts}
 use Rattle.slnf_turns.proofs.Items.{all_zero}

@@ -1,5 +1,4 @@
-use Rattle.std.proofs.Common.{rules, ◌≡◌, ap, ◌∙◌, refl}
-use Rattle.slnf_turns.specs.declared.views.View.{View}
+use Rattle.std.proofs.Common.{rules, ap}
 use Rattle.slnf_turns.proofs.Keeps.{forks}
 use Rattle.slnf_turns.proofs.Resting.{resting_lives, rests_again, rests_free}
 use Rattle.slnf_turns.proofs.turns.Turns.split.Goals as goal

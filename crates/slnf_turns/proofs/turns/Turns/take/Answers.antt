@@ -1,5 +1,5 @@
-use Rattle.std.proofs.Common.{rules, ◌≡◌, ◌<◌, ap, ◌∙◌, refl, sym, subst}
-use Rattle.slnf_turns.proofs.Resting.{rests_open, in_hand}
+use Rattle.std.proofs.Common.{◌<◌, ap, sym, subst}
+use Rattle.slnf_turns.proofs.Resting.{rests_open}
 use Rattle.slnf_turns.proofs.turns.Turns.take.Goals as goal
 
 pub invariant_of-pass : goal.invariant_of-pass

@@ -1,9 +1,9 @@
-use Rattle.std.proofs.Common.{rules, ◌≡◌, ◌≢◌, ◌<◌, ℕ, ◌+◌, true, false, Option, Some, sym, ap, ◌∙◌, subst, arith, get_or, set, get_or-set_other, get_or-set_same}
+use Rattle.std.proofs.Common.{rules, ◌≡◌, ℕ, ◌+◌, false, Some, sym, ap, ◌∙◌, subst, arith, get_or, set, get_or-set_other}
 use mathlib.Core.Option.{some}
 use mathlib.Core.Logic.{dite}
 use native.Mathlib.Decide.{ℕ_discrete}
 use lib.ListN.{get_elem?}
-use Rattle.std.specs.Slots.{slots_items, slots_filled, slots_len, slots_counts}
+use Rattle.std.specs.Slots.{slots_items, slots_filled}
 use Rattle.slnf_turns.proofs.Lists.{one_at}
 use Rattle.slnf_turns.proofs.Items.{emptied, more_back}
 use Rattle.slnf_turns.proofs.turns.calls.collect.Goals as goal
