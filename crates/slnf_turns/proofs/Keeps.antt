@@ -14,7 +14,7 @@ use Rattle.slnf_turns.specs.declared.views.View.{View}
 use Rattle.slnf_turns.specs.declared.views.Stage.{Stage}
 use Rattle.slnf_turns.specs.declared.views.Stage.TheVariants.{Free, Waits, Turn, Open, Spent}
 use Rattle.slnf_turns.specs.Views.{Begins, AllOf, seen_of, WasTold, staged, after_open, after_raise, after_split, split_off, after_join, spent_view}
-use Rattle.slnf_turns.specs.Rule.{queues_at, queues, living_at, living, HasTicket, IsOpenAt, Knows, AreTold, IsKept, AreKin, Rule}
+use Rattle.slnf_turns.specs.Rule.{queues_at, queues, living_at, living, HasTicket, IsOpenAt, Knows, AreListed, IsKept, AreKin, Rule}
 use Rattle.slnf_turns.specs.Steps.{drew, looked, opened, wrote, raised, learned}
 use Rattle.slnf_turns.proofs.Lists.{all_map}
 use Rattle.slnf_turns.proofs.Queue.{with_draw, with_open, with_raise, queue_same, queue_draws, queue_opens, queue_raises, queue_admits, requeued, at_home, near_tickets}
@@ -124,7 +124,7 @@ module _ {B : Type 0} (lines : B → List Line) (place places : B → ℕ) where
         loaded s i (set s.homes k none) (set s.views id w) record {
           account = with_open a k id;
           queue = queue_opens lines place places a s r.queue id k t me.0 b at turn lies.1;
-          tale = subst (λ (m : ℕ). AreTold (with_open a k id) m (set s.views id w)) (sym (length-set s.homes k none)) (tale_same a (with_open a k id) (length s.homes) s.views r.tale id me.0 w at (lives, refl, refl) (λ _. refl) (λ _. refl)
+          tale = subst (λ (m : ℕ). AreListed (with_open a k id) m (set s.views id w)) (sym (length-set s.homes k none)) (tale_same a (with_open a k id) (length s.homes) s.views r.tale id me.0 w at (lives, refl, refl) (λ _. refl) (λ _. refl)
               (λ j l. sees_one a (length s.homes) s.views r.tale id k j me.0 (lines b) at lives l (λ e. subst (λ (z : ℕ). Begins (lines b) (a.published z)) (sym e) ([], sym lies.4 ∙ sym (append-nil (lines b))))));
           kin = subst (λ (m : ℕ). AreKin (with_open a k id) m (set s.views id w)) (sym (length-set s.homes k none)) (kin_moves a a.drawn a.served (with_open a k id).holder a.published a.list_of (length s.homes) s.views r.kin id me.0 w at (lives, refl, refl, refl, refl) (λ j ls c. c) (λ j _. refl));
         },
@@ -166,7 +166,7 @@ module _ {B : Type 0} (lines : B → List Line) (place places : B → ℕ) where
         record {
           account = a';
           queue = queue_raises lines place places a s r.queue id k t base more v b at is_open is_place (is_places ∙ sym deep) is_lines;
-          tale = subst (λ (m : ℕ). AreTold a' m (set s.views id w)) (sym len) (tale_raises a (length s.homes) s.views r.tale id k base more near same_base of_id v w at lives refl refl refl);
+          tale = subst (λ (m : ℕ). AreListed a' m (set s.views id w)) (sym len) (tale_raises a (length s.homes) s.views r.tale id k base more near same_base of_id v w at lives refl refl refl);
           kin = subst (λ (m : ℕ). AreKin a' m (set s.views id w)) (sym len) (kin_moves a a.drawn a'.served a'.holder a'.published a'.list_of (length s.homes) s.views r.kin id v w at (lives, refl, refl, refl, refl)
               (still_begins a (length s.homes) s.views r.tale id k base more near same_base of_id) (list_else a (length s.homes) s.views r.tale id k base more near same_base of_id));
         },

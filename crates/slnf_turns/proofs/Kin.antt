@@ -12,7 +12,7 @@ use Rattle.slnf_turns.specs.declared.views.Listed.{Listed}
 use Rattle.slnf_turns.specs.declared.views.Joined.{Joined}
 use Rattle.slnf_turns.specs.declared.views.View.{View}
 use Rattle.slnf_turns.specs.Views.{Begins, seen_of, kept_of, listed, number_of, WasTold, after_split, split_off, joined_of, after_join, spent_view}
-use Rattle.slnf_turns.specs.Rule.{Account, living, AreTold, IsKept, AreKin}
+use Rattle.slnf_turns.specs.Rule.{Account, living, AreListed, IsKept, AreKin}
 use Rattle.slnf_turns.proofs.Lists.{at_end, at_within, one_at, get_more, get_last, begins_refl, begins_more, all_map, all_snoc, map_twice, total_set, total_snoc}
 use Rattle.slnf_turns.proofs.Lines.{kept_else, kept_last}
 use Rattle.slnf_turns.proofs.Queue.{views_stay}
@@ -88,7 +88,7 @@ with_join a u = record { drawn = a.drawn; served = a.served; holder = a.holder; 
 told_on : (a : Account) (x : Joined) (i : ℕ) (told : List Listed) → WasTold a.before a.joined i told → WasTold a.before (a.joined ++ x ∷ []) i told
 told_on a x i told h = (h.0, subst (Begins told) (sym (map-append listed a.joined (x ∷ []))) (begins_more told (map listed a.joined) (map listed (x ∷ [])) h.1))
 
-pub kin_joins : (a : Account) (n : ℕ) (vs : List View) (t : AreTold a n vs) (k : AreKin a n vs) (v u : View) (j : ℕ) → get_elem? vs 0 ≡ some v → get_elem? vs j ≡ some u → j ≢ 0 → living u ≡ 1
+pub kin_joins : (a : Account) (n : ℕ) (vs : List View) (t : AreListed a n vs) (k : AreKin a n vs) (v u : View) (j : ℕ) → get_elem? vs 0 ≡ some v → get_elem? vs j ≡ some u → j ≢ 0 → living u ≡ 1
     → AreKin (with_join a u) n (set (set vs 0 (after_join v u)) j spent_view)
 kin_joins a n vs t k v u j at there apart lives = let both : View = after_join v u in let x : Joined = joined_of u in let ws : List View = set vs 0 both in let us : List View = set ws j spent_view in let r = k.root v at in
     let within : j < length vs = at_within vs j u there in let first : 0 < length vs = at_within vs 0 v at in let l₀ : length ws ≡ length vs = length-set vs 0 both in let l₁ : length us ≡ length ws = length-set ws j spent_view in

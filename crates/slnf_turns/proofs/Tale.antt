@@ -7,7 +7,7 @@ use lib.ListN.{get_elem?}
 use Rattle.slnf_turns.specs.declared.views.Line.{Line}
 use Rattle.slnf_turns.specs.declared.views.View.{View}
 use Rattle.slnf_turns.specs.Views.{Begins, lines_of, AllOf, part_of, noted, sight, seen_of}
-use Rattle.slnf_turns.specs.Rule.{Account, living, AreTold}
+use Rattle.slnf_turns.specs.Rule.{Account, living, AreListed}
 use Rattle.slnf_turns.proofs.Lists.{put_here, put_else, at_end, begins_refl, begins_more, at_within}
 use Rattle.slnf_turns.proofs.Lines.{if_eq, if_ne, lines_of_append, part_of_append, lines_of_all, lines_of_none, part_here, part_else}
 use Rattle.slnf_turns.proofs.Queue.{views_stay, with_raise}
@@ -17,9 +17,9 @@ abbrev pub IsSameTale : View → View → Type 0
 IsSameTale v w = (living v ≡ 1) × (w.number ≡ v.number) × (w.own ≡ v.own)
 
 -- a step that publishes nothing, after which me has seen what it had, or what is published
-pub tale_same : (a a' : Account) (n : ℕ) (vs : List View) (t : AreTold a n vs) (me : ℕ) (v w : View) → get_elem? vs me ≡ some v → IsSameTale v w
+pub tale_same : (a a' : Account) (n : ℕ) (vs : List View) (t : AreListed a n vs) (me : ℕ) (v w : View) → get_elem? vs me ≡ some v → IsSameTale v w
     → ((k : ℕ) → a'.published k ≡ a.published k) → ((i : ℕ) → a'.list_of i ≡ a.list_of i)
-    → ((k : ℕ) → k < n → Begins (seen_of k w.seen) (a.published k)) → AreTold a' n (set vs me w)
+    → ((k : ℕ) → k < n → Begins (seen_of k w.seen) (a.published k)) → AreListed a' n (set vs me w)
 tale_same a a' n vs t me v w at same shown lists seen = record {
   parts = λ k i l. ap (lines_of i) (shown k) ∙ (t.parts k i l ∙ ap (part_of k) (sym (lists i)));
   fresh = λ i l. lists i ∙ t.fresh i (subst (λ (m : ℕ). m ≤ i) (length-set vs me w) l);
@@ -30,14 +30,14 @@ tale_same a a' n vs t me v w at same shown lists seen = record {
 }
 
 -- a pass saw one shard, and of the others what it had seen
-pub sees_one : (a : Account) (n : ℕ) (vs : List View) (t : AreTold a n vs) (me j k : ℕ) (v : View) (ls : List Line) → get_elem? vs me ≡ some v → living v ≡ 1 → k < n → (k ≡ j → Begins ls (a.published k))
+pub sees_one : (a : Account) (n : ℕ) (vs : List View) (t : AreListed a n vs) (me j k : ℕ) (v : View) (ls : List Line) → get_elem? vs me ≡ some v → living v ≡ 1 → k < n → (k ≡ j → Begins ls (a.published k))
     → Begins (seen_of k (sight j ls ∷ v.seen)) (a.published k)
 sees_one a n vs t me j k v ls at lives near here = dite (ℕ_discrete k j)
     (λ e. subst (λ (l : List Line). Begins l (a.published k)) (sym (if_eq k j ls (seen_of k v.seen) e)) (here e))
     (λ other. subst (λ (l : List Line). Begins l (a.published k)) (sym (if_ne k j ls (seen_of k v.seen) other)) (t.seen me k v at lives near))
 
 -- a new pass with no line
-pub tale_admits : (a : Account) (n : ℕ) (vs : List View) (t : AreTold a n vs) (w : View) → w.number ≡ length vs → w.own ≡ [] → w.seen ≡ [] → AreTold a n (vs ++ w ∷ [])
+pub tale_admits : (a : Account) (n : ℕ) (vs : List View) (t : AreListed a n vs) (w : View) → w.number ≡ length vs → w.own ≡ [] → w.seen ≡ [] → AreListed a n (vs ++ w ∷ [])
 tale_admits a n vs t w number own seen = record {
   parts = t.parts;
   fresh = λ i l. t.fresh i (let h = length-append vs (w ∷ []) in omega arith);
@@ -50,7 +50,7 @@ tale_admits a n vs t w number own seen = record {
     fresh_one K here others j x e l = ⊎_elim (λ (h : get_elem? vs j ≡ some x). others j x h l) (λ (h : (j ≡ length vs) × (w ≡ x)). subst (λ (z : ℕ × View). K z.0 z.1) (λ i. (sym h.0 i, h.1 i)) here) (at_end vs w j x e)
 
 -- a pass that is joined, and has no view after that
-pub tale_spends : (a : Account) (n : ℕ) (vs : List View) (t : AreTold a n vs) (me : ℕ) (w : View) → living w ≡ 0 → AreTold a n (set vs me w)
+pub tale_spends : (a : Account) (n : ℕ) (vs : List View) (t : AreListed a n vs) (me : ℕ) (w : View) → living w ≡ 0 → AreListed a n (set vs me w)
 tale_spends a n vs t me w gone = record {
   parts = t.parts;
   fresh = λ i l. t.fresh i (subst (λ (m : ℕ). m ≤ i) (length-set vs me w) l);
@@ -59,7 +59,7 @@ tale_spends a n vs t me w gone = record {
   seen = λ j k x e l near. views_stay (λ i y. living y ≡ 1 → Begins (seen_of k y.seen) (a.published k)) vs me w (λ z. absurd (omega arith)) (λ i y _ p q. t.seen i k y p q near) j x e l;
 }
 
-module _ (a : Account) (n : ℕ) (vs : List View) (t : AreTold a n vs) (me k : ℕ) (base more : List Line) (near : k < n) (is_base : base ≡ a.published k) (mine : AllOf me more) where
+module _ (a : Account) (n : ℕ) (vs : List View) (t : AreListed a n vs) (me k : ℕ) (base more : List Line) (near : k < n) (is_base : base ≡ a.published k) (mine : AllOf me more) where
   abbrev a' : Account
   a' = with_raise a k me base more
 
@@ -95,7 +95,7 @@ module _ (a : Account) (n : ℕ) (vs : List View) (t : AreTold a n vs) (me k : �
       (λ e'. sym (ap (part_of j) (list_here i e') ∙ (part_of_append j (a.list_of me) (noted k more) ∙ (ap (λ z. part_of j (a.list_of me) ++ z) (part_else k j more (λ z. apart (sym z))) ∙ (append-nil (part_of j (a.list_of me)) ∙ ap (λ z. part_of j (a.list_of z)) (sym e'))))))
       (λ other. ap (part_of j) (sym (list_else i other)))))
 
-  pub tale_raises : (v w : View) → get_elem? vs me ≡ some v → living v ≡ 1 → w.number ≡ v.number → w.own ≡ v.own ++ noted k more → w.seen ≡ sight k (base ++ more) ∷ v.seen → AreTold a' n (set vs me w)
+  pub tale_raises : (v w : View) → get_elem? vs me ≡ some v → living v ≡ 1 → w.number ≡ v.number → w.own ≡ v.own ++ noted k more → w.seen ≡ sight k (base ++ more) ∷ v.seen → AreListed a' n (set vs me w)
   tale_raises v w at lives number own saw = record {
     parts = raise_parts;
     fresh = λ i l. let inside = at_within vs me v at in let len = length-set vs me w in list_else i (λ e. omega arith) ∙ t.fresh i (omega arith);

@@ -1,5 +1,5 @@
 -- What contracts say of a pass, and of the turns that it belongs to.
-use Rattle.std.specs.Prelude.{◌≡◌, ℕ, ◌-◌, List, [], ◌∷◌, length, slice_get, Option}
+use Rattle.std.specs.Prelude.{◌≡◌, ℕ, zero, suc, List, [], ◌∷◌, length, slice_get, Option, None}
 use Rattle.slnf_turns.specs.declared.views.Line.{Line}
 use Rattle.slnf_turns.specs.declared.views.Noted.{Noted}
 use Rattle.slnf_turns.specs.declared.views.View.{View}
@@ -52,6 +52,7 @@ kept_view k = view_or first_view k.root.value.views
 abbrev pub kept_list : ℕ → Kept → List Noted
 kept_list i k = list_in i (kept_view k)
 
--- the numbers that were joined before the split of a number
+-- the numbers that were joined before the split of a number: the root has none
 abbrev pub joined_before : ℕ → Kept → Option (List ℕ)
-joined_before i k = slice_get (kept_view k).before (i - 1)
+joined_before zero k = None
+joined_before (suc i) k = slice_get (kept_view k).before i

@@ -48,6 +48,7 @@ living_at (Open k t base more) = 1
 abbrev pub living : View → ℕ
 living v = living_at v.stage
 
+-- f of each view, added up
 abbrev pub total : (View → ℕ) → List View → ℕ
 total f [] = 0
 total f (v ∷ vs) = f v + total f vs
@@ -64,6 +65,7 @@ HasTicket k t Spent = ⊥
 abbrev pub IsOwned : List View → ℕ → ℕ → Type 0
 IsOwned views k t = (j : ℕ) × (v : View) × (get_elem? views j ≡ some v) × HasTicket k t v.stage
 
+-- the pass has this shard open
 abbrev pub IsOpenAt : ℕ → Stage → Type 0
 IsOpenAt k Free = ⊥
 IsOpenAt k (Waits j t) = ⊥
@@ -87,11 +89,13 @@ module _ (a : Account) (n : ℕ) where
 module _ {B : Type 0} (lines : B → List Line) (place places : B → ℕ) where
   -- the words, the tickets and the slots
   pub record AreQueued (a : Account) (s : State (Option B) View) : Type 0 where
+    -- the words count modulo 2 ^ 64
     pub wide : length s.words ≡ 32 * length s.homes
     pub tickets : (k : ℕ) → k < length s.homes → slice_index s.words (32 * k) ≡ a.drawn k % 2 ^ 64
     pub serving : (k : ℕ) → k < length s.homes → slice_index s.words (32 * k + 16) ≡ a.served k % 2 ^ 64
     -- as many tickets are out as passes have one
     pub queued : (k : ℕ) → k < length s.homes → a.drawn k ≡ a.served k + total (queues k) s.views
+    -- so few passes that words which count modulo 2 ^ 64 tell their tickets apart
     pub few : length s.views < 2 ^ 32
     pub stages : (j : ℕ) (v : View) → get_elem? s.views j ≡ some v → Knows a (length s.homes) j v.stage
     -- each ticket that is out is some pass's, and no two passes have one
@@ -99,14 +103,17 @@ module _ {B : Type 0} (lines : B → List Line) (place places : B → ℕ) where
     pub apart : (i j k t : ℕ) (v w : View) → get_elem? s.views i ≡ some v → get_elem? s.views j ≡ some w → HasTicket k t v.stage → HasTicket k t w.stage → i ≡ j
     -- a shard that nobody has open is at home, with the published lines
     pub home : (k : ℕ) → k < length s.homes → a.holder k ≡ 0 → (b : B) × (get_elem? s.homes k ≡ some (some (Some b))) × (place b ≡ k) × (places b ≡ length s.homes) × (lines b ≡ a.published k)
+    -- one that some pass has open isn't
     pub out : (k j : ℕ) → k < length s.homes → a.holder k ≡ suc j → (get_elem? s.homes k ≡ some none) × (v : View) × (get_elem? s.views j ≡ some v) × IsOpenAt k v.stage
 
--- the lines: each number's lines in a shard are that shard's part of its own list
-pub record AreTold (a : Account) (n : ℕ) (views : List View) : Type 0 where
+-- the lines: each number's lines in a shard are that shard's part of its own list, and a number not given has none
+pub record AreListed (a : Account) (n : ℕ) (views : List View) : Type 0 where
   pub parts : (k i : ℕ) → k < n → lines_of i (a.published k) ≡ part_of k (a.list_of i)
   pub fresh : (i : ℕ) → length views ≤ i → a.list_of i ≡ []
+  -- a pass's number is the place of its view, and its own list is its number's
   pub numbers : (j : ℕ) (v : View) → get_elem? views j ≡ some v → living v ≡ 1 → v.number ≡ j
   pub own : (j : ℕ) (v : View) → get_elem? views j ≡ some v → living v ≡ 1 → v.own ≡ a.list_of j
+  -- what a pass saw of a shard is a prefix of the published lines
   pub seen : (j k : ℕ) (v : View) → get_elem? views j ≡ some v → living v ≡ 1 → k < n → Begins (seen_of k v.seen) (a.published k)
 
 -- what the root keeps of a joined pass, whose view is spent
@@ -120,6 +127,7 @@ pub record IsKept (a : Account) (n : ℕ) (views : List View) (x : Joined) : Typ
 -- the splits and the joins
 pub record AreKin (a : Account) (n : ℕ) (views : List View) : Type 0 where
   pub root : (v : View) → get_elem? views 0 ≡ some v → (living v ≡ 1) × (v.before ≡ a.before) × (v.joined ≡ a.joined)
+  -- each split made one view more, and each join spent one
   pub counted : length views ≡ length a.before + 1
   pub living_ones : total living views + length a.joined ≡ length views
   pub kept : AllByRecursion (IsKept a n views) a.joined
@@ -130,5 +138,5 @@ module _ {B : Type 0} (lines : B → List Line) (place places : B → ℕ) where
   pub record Rule (s : State (Option B) View) : Type 0 where
     pub account : Account
     pub queue : AreQueued lines place places account s
-    pub tale : AreTold account (length s.homes) s.views
+    pub tale : AreListed account (length s.homes) s.views
     pub kin : AreKin account (length s.homes) s.views
