@@ -1,10 +1,10 @@
-pub mod Lists
-pub mod Lines
-pub mod Queue
-pub mod Tale
-pub mod Kin
-pub mod Keeps
-pub mod Ends
-pub mod Items
-pub mod Resting
+mod Lists
+mod Lines
+mod Queue
+mod Tale
+mod Kin
+mod Keeps
+mod Ends
+mod Items
+mod Resting
 pub mod Laws

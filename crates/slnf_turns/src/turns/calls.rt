@@ -102,7 +102,7 @@ impl<B: Chronicle> Turns<B> {
         self.table.shared.load::<Learn>(&mut root.seat, 0);
     }
 
-    /// Waits for the shard's turn.
+    /// Waits for the shard's turn, and takes its value. No clause says that the turn comes.
     pub fn take<R: Wait>(&self, rt: &R, pass: &mut Pass<B>, shard: u32) -> Held<B>
         requires here { IsOf self.now pass.old }
         requires shard { shard < shards self.now }
