@@ -1,4 +1,6 @@
-pub mod FirstForm
-pub mod Ending
-pub mod OneLane
+pub mod Apart
 pub mod Writing
+pub mod Reading
+pub mod Runs
+pub mod Passing
+pub mod Ending

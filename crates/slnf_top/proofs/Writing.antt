@@ -1,117 +1,103 @@
--- Four files written one after another, at names that differ.
-use Rattle.std.proofs.Common.{◌≡◌, ◌≢◌, ◌⊎◌, inl, inr, ℕ, ◌+◌, ◌<◌, ◌≤◌, Option, Some, None, List, [], ◌∷◌, ◌++◌, length, refl, ap, sym, ◌∙◌, subst, arith, append_assoc, length-append}
-use Rattle.std.specs.Prelude.{codes, decimal, Result, Ok, Err, IfErr, OnOk}
-use Rattle.std.proofs.lemmas.Fmt.{length-decimal-le}
+-- Files that are written one after another.
+use Rattle.std.proofs.Common.{◌≡◌, ◌⊎◌, inl, inr, ℕ, List, [], ◌∷◌, refl, ap, sym, ◌∙◌}
 use Rattle.slnf_shelf.specs.declared.shelf.Call.{Call}
 use Rattle.slnf_shelf.specs.declared.shelf.Call.TheVariants.{Read, Begin, Append}
-use Rattle.slnf_shelf.specs.Shelf.{Faults, Moves, Rose, set_to}
-use Rattle.slnf_shelf.proofs.Laws.{Moves-then, Rose-after}
+use Rattle.slnf_shelf.specs.Shelf.{Faults, Moves, Rose, SameFiles, SameOthers, Writes, set_to}
+use Rattle.slnf_shelf.proofs.Laws.{Moves-still, Moves-then, Moves-wider, Rose-after}
 use Rattle.slnf_top.specs.declared.statuses.Status.{Status}
 use Rattle.slnf_top.specs.declared.statuses.Status.TheVariants as status
-use Rattle.slnf_top.specs.declared.outputs.Texts.{Texts}
-use Rattle.slnf_top.specs.Names.{capture_name, verdicts_name, journal_name, summary_name}
-use Rattle.slnf_top.specs.Effects.{IsOutput, Writes, WriteRose}
+use Rattle.slnf_top.specs.declared.outputs.File.{File}
+use Rattle.slnf_top.specs.Effects.{Holds}
+use Rattle.slnf_top.specs.Files.{HoldFiles, IsNamed, WritesFiles, FileRose, Wrote, WroteOne}
 use Rattle.slnf_top.specs.Refused.{StopsWriting}
-use Rattle.slnf_top.specs.Texts.{HoldsTexts}
+use Rattle.slnf_top.proofs.Apart.{AreApart}
 
--- how long the names are, which tells them apart
-capture_length : (out : List ℕ) → length (capture_name out 0) ≤ length out + 7
-capture_length out =
-    let digits : length (decimal 0) ≤ 1 = length-decimal-le 1 0 (omega arith) (omega arith) (omega arith) in
-    omega (arith, length-append (out ++ codes "." ++ decimal 0) (codes ".pcap"), length-append (out ++ codes ".") (decimal 0), length-append out (codes "."))
+-- a name that none of them has holds what it held
+pub wrote_others : (files : List File) (h k : Holds) → Wrote files h k → (name : List ℕ) → ¬ IsNamed files name → k name ≡ h name
+wrote_others [] h k w name apart = w name
+wrote_others (file ∷ files) h k w name apart =
+    wrote_others files w.0 k w.2 name (λ n. apart (inr n)) ∙ w.1.others name (λ e. apart (inl e))
 
-capture_some : (out : List ℕ) → length out + 6 ≤ length (capture_name out 0)
-capture_some out = omega (arith, length-append (out ++ codes "." ++ decimal 0) (codes ".pcap"), length-append (out ++ codes ".") (decimal 0), length-append out (codes "."))
+-- what held before another file was written
+hold_before : (files : List File) (name : List ℕ) (h m k : Holds) → ¬ IsNamed files name → SameOthers name h m → HoldFiles files m k → HoldFiles files h k
+hold_before [] name h m k apart others held = tt
+hold_before (file ∷ files) name h m k apart others held = (
+  held.0 ∙ ap (set_to file.text) (others file.name (λ e. apart (inl (sym e)))),
+  hold_before files name h m k (λ n. apart (inr n)) others held.1,
+)
 
-verdicts_length : (out : List ℕ) → length (verdicts_name out) ≡ length out + 9
-verdicts_length out = length-append out (codes ".verdicts")
+-- files with names that differ hold their texts
+pub wrote_holds : (files : List File) (h k : Holds) → AreApart files → Wrote files h k → HoldFiles files h k
+wrote_holds [] h k apart w = tt
+wrote_holds (file ∷ files) h k apart w = (
+  wrote_others files w.0 k w.2 file.name apart.0 ∙ w.1.text,
+  hold_before files file.name h w.0 k apart.0 w.1.others (wrote_holds files w.0 k apart.1 w.2),
+)
 
-journal_length : (out : List ℕ) → length (journal_name out) ≡ length out + 8
-journal_length out = length-append out (codes ".journal")
+-- the same from what another name held
+pub hold_since : (files : List File) (h m k : Holds) → SameFiles h m → HoldFiles files m k → HoldFiles files h k
+hold_since [] h m k same held = tt
+hold_since (file ∷ files) h m k same held = (held.0 ∙ ap (set_to file.text) (same file.name), hold_since files h m k same held.1)
 
-pub capture_verdicts : (out : List ℕ) → capture_name out 0 ≢ verdicts_name out
-capture_verdicts out h = let e : length (capture_name out 0) ≡ length (verdicts_name out) = ap length h in omega (arith, capture_length out, verdicts_length out)
+-- How far the writing has come: these files are left to write.
+pub record WritesSoFar (files rest : List File) (a b : Faults) (h m : Holds) : Type 0 where
+  pub moves : Moves (WritesFiles files) a b
+  pub others : (other : List ℕ) → ¬ IsNamed files other → m other ≡ h other
+  pub written : (k : Holds) → Wrote rest m k → Wrote files h k
+  pub among : (name : List ℕ) → IsNamed rest name → IsNamed files name
 
-pub capture_journal : (out : List ℕ) → capture_name out 0 ≢ journal_name out
-capture_journal out h = let e : length (capture_name out 0) ≡ length (journal_name out) = ap length h in omega (arith, capture_length out, journal_length out)
+pub writes_start : (files : List File) (a : Faults) (h : Holds) → WritesSoFar files files a a h h
+writes_start files a h = record { moves = Moves-still (WritesFiles files) a; others = λ other apart. refl; written = λ k w. w; among = λ name n. n }
 
-pub verdicts_journal : (out : List ℕ) → verdicts_name out ≢ journal_name out
-verdicts_journal out h = let e : length (verdicts_name out) ≡ length (journal_name out) = ap length h in omega (arith, verdicts_length out, journal_length out)
+-- the writes of one are among those of all
+one_of : (files rest : List File) (file : File) → ((name : List ℕ) → IsNamed (file ∷ rest) name → IsNamed files name) → (call : Call) (name : List ℕ) → Writes file.name call name → WritesFiles files call name
+one_of files rest file among Read name h = h
+one_of files rest file among Begin name h = among name (inl h)
+one_of files rest file among Append name h = among name (inl h)
 
-pub capture_summary : (out : List ℕ) → capture_name out 0 ≢ summary_name
-capture_summary out h = let e : length (capture_name out 0) ≡ 1 = ap length h in omega (arith, capture_some out)
+pub moves_next : (files rest : List File) (file : File) (a b c : Faults) (h m : Holds) → WritesSoFar files (file ∷ rest) a b h m → Moves (Writes file.name) b c → Moves (WritesFiles files) a c
+moves_next files rest file a b c h m far moved =
+    Moves-then (WritesFiles files) a b c far.moves (Moves-wider (Writes file.name) (WritesFiles files) b c (one_of files rest file far.among) moved)
 
-pub verdicts_summary : (out : List ℕ) → verdicts_name out ≢ summary_name
-verdicts_summary out h = let e : length (verdicts_name out) ≡ 1 = ap length h in omega (arith, verdicts_length out)
+pub others_next : (files rest : List File) (file : File) (a b : Faults) (h m k : Holds) → WritesSoFar files (file ∷ rest) a b h m → SameOthers file.name m k → (other : List ℕ) → ¬ IsNamed files other → k other ≡ h other
+others_next files rest file a b h m k far others other apart =
+    others other (λ e. apart (far.among other (inl e))) ∙ far.others other apart
 
-pub journal_summary : (out : List ℕ) → journal_name out ≢ summary_name
-journal_summary out h = let e : length (journal_name out) ≡ 1 = ap length h in omega (arith, journal_length out)
-
-abbrev pub Holds : Type 0
-Holds = List ℕ → Option (List ℕ)
-
--- One file was written: its name, and what other names hold.
-pub record Wrote (name : List ℕ) (before now : Holds) : Type 0 where
-  pub others : (other : List ℕ) → other ≢ name → now other ≡ before other
-
--- every name that is no output holds what it held
-pub others_hold : (out : List ℕ) (h0 h1 h2 h3 h4 : Holds) → Wrote (capture_name out 0) h0 h1 → Wrote (verdicts_name out) h1 h2 → Wrote (journal_name out) h2 h3 → Wrote summary_name h3 h4 → (other : List ℕ) → ¬ IsOutput out other → h4 other ≡ h0 other
-others_hold out h0 h1 h2 h3 h4 w1 w2 w3 w4 other apart =
-    w4.others other (λ e. apart (inr (inr (inr e)))) ∙ w3.others other (λ e. apart (inr (inr (inl e)))) ∙ w2.others other (λ e. apart (inr (inl e))) ∙ w1.others other (λ e. apart (inl e))
-
--- not the other way round either
-turned : {a b : List ℕ} → a ≢ b → b ≢ a
-turned h e = h (sym e)
-
--- each output holds its text
-pub texts_hold : (out : List ℕ) (texts : Texts) (h0 h1 h2 h3 h4 : Holds) → Wrote (capture_name out 0) h0 h1 → Wrote (verdicts_name out) h1 h2 → Wrote (journal_name out) h2 h3 → Wrote summary_name h3 h4
-    → h1 (capture_name out 0) ≡ set_to texts.capture.items (h0 (capture_name out 0)) → h2 (verdicts_name out) ≡ set_to texts.verdicts.items (h1 (verdicts_name out))
-    → h3 (journal_name out) ≡ set_to texts.journal.items (h2 (journal_name out)) → h4 summary_name ≡ set_to texts.summary.items (h3 summary_name) → HoldsTexts out texts h0 h4
-texts_hold out texts h0 h1 h2 h3 h4 w1 w2 w3 w4 t1 t2 t3 t4 = record {
-  capture = w4.others _ (capture_summary out) ∙ w3.others _ (capture_journal out) ∙ w2.others _ (capture_verdicts out) ∙ t1;
-  verdicts = w4.others _ (verdicts_summary out) ∙ w3.others _ (verdicts_journal out) ∙ t2 ∙ ap (set_to texts.verdicts.items) (w1.others _ (turned (capture_verdicts out)));
-  journal = w4.others _ (journal_summary out) ∙ t3 ∙ ap (set_to texts.journal.items) (w2.others _ (turned (verdicts_journal out)) ∙ w1.others _ (turned (capture_journal out)));
-  summary = t4 ∙ ap (set_to texts.summary.items) (w3.others _ (turned (journal_summary out)) ∙ w2.others _ (turned (verdicts_summary out)) ∙ w1.others _ (turned (capture_summary out)));
+pub writes_next : (files rest : List File) (file : File) (a b c : Faults) (h m k : Holds) → WritesSoFar files (file ∷ rest) a b h m → Moves (Writes file.name) b c → SameOthers file.name m k → WroteOne file m k → WritesSoFar files rest a c h k
+writes_next files rest file a b c h m k far moved others one = record {
+  moves = moves_next files rest file a b c h m far moved;
+  others = others_next files rest file a b h m k far others;
+  written = λ last w. far.written last (k, one, w);
+  among = λ name n. far.among name (inr n);
 }
 
--- a fault of the last writing is one of the whole
-rose_last : (out : List ℕ) (a b c : Faults) → Moves (Writes out) a b → WriteRose out b c → WriteRose out a c
-rose_last out a b c moved h = (
-  h.0,
-  h.1,
-  elim (h.2) [
-    | inl begins ↦ inl (Rose-after (Writes out) Begin h.0 a b c moved begins)
-    | inr appends ↦ inr (Rose-after (Writes out) Append h.0 a b c moved appends)
-  ],
-)
+pub writes_end : (files : List File) (a b : Faults) (h m : Holds) → WritesSoFar files [] a b h m → Wrote files h m
+writes_end files a b h m far = far.written m (λ name. refl)
 
 -- what stops the writing, by a weaker fact
 stops_weaker : (P Q : Type 0) (ended : Status) → (P → Q) → StopsWriting P ended → StopsWriting Q ended
 stops_weaker P Q status.Ok f h = h
+stops_weaker P Q status.Left f h = h
 stops_weaker P Q status.Usage f h = h
+stops_weaker P Q (status.PlanBad error) f h = h
+stops_weaker P Q (status.CaptureBad lane error) f h = h
 stops_weaker P Q status.ReadFault f h = h
 stops_weaker P Q status.WriteFault f h = f h
 stops_weaker P Q status.NoMemory f h = h
-stops_weaker P Q (status.CaptureBad lane error) f h = h
+stops_weaker P Q (status.OverLimit limit count) f h = h
 stops_weaker P Q (status.NotBuilt file) f h = h
 
-pub stopped_last : {T : Type 0} (out : List ℕ) (a b c d e : Faults) (r : Result T Status) → Moves (Writes out) a b → Moves (Writes out) b c → Moves (Writes out) c d → IfErr r (StopsWriting (WriteRose out d e)) → IfErr r (StopsWriting (WriteRose out a e))
-stopped_last out a b c d e (Ok x) m1 m2 m3 h = tt
-stopped_last out a b c d e (Err ended) m1 m2 m3 h =
-    stops_weaker (WriteRose out d e) (WriteRose out a e) ended (rose_last out a d e (Moves-then (Writes out) a c d (Moves-then (Writes out) a b c m1 m2) m3)) h
-
--- a file that was written at a name, by its other spelling
-pub wrote_at : (before now : Holds) (name spelled : List ℕ) → name ≡ spelled → ((other : List ℕ) → other ≢ name → now other ≡ before other) → Wrote spelled before now
-wrote_at before now name spelled is others = record { others = λ other apart. others other (λ e. apart (e ∙ is)) }
-
-pub holds_at : (before now : Holds) (name spelled text written : List ℕ) → name ≡ spelled → text ≡ written → now name ≡ set_to text (before name) → now spelled ≡ set_to written (before spelled)
-holds_at before now name spelled text written is same h =
-    ap now (sym is) ∙ h ∙ ap (λ (t : List ℕ). set_to t (before name)) same ∙ ap (λ (n : List ℕ). set_to written (before n)) is
-
--- each output holds its text where the last was written
-pub texts_if_ok : {T E : Type 0} (out : List ℕ) (texts : Texts) (h0 h1 h2 h3 h4 : Holds) (r : Result T E) → Wrote (capture_name out 0) h0 h1 → Wrote (verdicts_name out) h1 h2 → Wrote (journal_name out) h2 h3 → Wrote summary_name h3 h4
-    → h1 (capture_name out 0) ≡ set_to texts.capture.items (h0 (capture_name out 0)) → h2 (verdicts_name out) ≡ set_to texts.verdicts.items (h1 (verdicts_name out))
-    → h3 (journal_name out) ≡ set_to texts.journal.items (h2 (journal_name out)) → (last : List ℕ) → last ≡ texts.summary.items → OnOk r (h4 summary_name ≡ set_to last (h3 summary_name)) → OnOk r (HoldsTexts out texts h0 h4)
-texts_if_ok out texts h0 h1 h2 h3 h4 (Ok x) w1 w2 w3 w4 t1 t2 t3 last is t4 =
-    texts_hold out texts h0 h1 h2 h3 h4 w1 w2 w3 w4 t1 t2 t3 (t4 ∙ ap (λ (t : List ℕ). set_to t (h3 summary_name)) is)
-texts_if_ok out texts h0 h1 h2 h3 h4 (Err e) w1 w2 w3 w4 t1 t2 t3 last is t4 = tt
+-- a fault of one file is one of all
+pub stopped_next : (files rest : List File) (file : File) (a b c : Faults) (h m : Holds) (ended : Status) → WritesSoFar files (file ∷ rest) a b h m → StopsWriting (Rose Begin file.name b c ⊎ Rose Append file.name b c) ended → StopsWriting (FileRose files a c) ended
+stopped_next files rest file a b c h m ended far stopped =
+    let name : List ℕ = file.name in
+    stops_weaker (Rose Begin name b c ⊎ Rose Append name b c) (FileRose files a c) ended
+    (λ rose. (
+      name,
+      far.among name (inl refl),
+      elim rose [
+        | inl begins ↦ inl (Rose-after (WritesFiles files) Begin name a b c far.moves begins)
+        | inr appends ↦ inr (Rose-after (WritesFiles files) Append name a b c far.moves appends)
+      ],
+    ))
+    stopped

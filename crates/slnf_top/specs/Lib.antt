@@ -1,11 +1,11 @@
 pub mod Words
 pub mod Names
-pub mod Form
+pub mod Limits
 pub mod Answer
 pub mod Effects
+pub mod Files
+pub mod Inputs
 pub mod Written
 pub mod Codes
 pub mod Refused
-pub mod Inputs
-pub mod Texts
 pub mod Outcome

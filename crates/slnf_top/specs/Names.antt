@@ -1,5 +1,5 @@
 -- The names of the files that a run writes.
-use Rattle.std.specs.Prelude.{ℕ, List, [], ◌∷◌, ◌++◌, codes, decimal}
+use Rattle.std.specs.Prelude.{ℕ, List, ◌++◌, codes, decimal}
 
 -- the output capture of a lane
 abbrev pub capture_name : List ℕ → ℕ → List ℕ

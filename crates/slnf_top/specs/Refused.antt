@@ -1,38 +1,50 @@
 -- Why a step of the command is refused.
-use Rattle.std.specs.Prelude.{◌≡◌, ℕ, Option, Some, None, List, IfSome}
-use Rattle.slnf_pcap.specs.declared.errors.PcapError.{PcapError}
-use Rattle.slnf_plan.specs.Plain.{PlainFunction}
+use Rattle.std.specs.Prelude.{◌≡◌, ℕ, ◌+◌, ◌<◌, Option, Some, List, length, Result, Err, IfSome}
+use Rattle.slnf_base.specs.declared.plans.Service.{Service}
+use Rattle.slnf_shelf.specs.Shelf.{Faults}
 use Rattle.slnf_top.specs.declared.statuses.Status.{Status}
 use Rattle.slnf_top.specs.declared.statuses.Status.TheVariants as status
-use Rattle.slnf_top.specs.Form.{first_plan}
-use Rattle.slnf_top.specs.Answer.{capture_answer}
+use Rattle.slnf_top.specs.declared.inputs.Tally.{Tally}
+use Rattle.slnf_top.specs.Answer.{captures_answer}
+use Rattle.slnf_top.specs.Effects.{Holds, CaptureRose}
+use Rattle.slnf_top.specs.Inputs.{AreHeld}
 
--- A plan is refused: its file met a fault (`rose`), memory was wanting, or it isn't of the form that is built.
-abbrev pub RefusesPlan : Type 0 → Option (List ℕ) → Status → Type 0
-RefusesPlan rose held status.ReadFault = rose
-RefusesPlan rose held status.NoMemory = Unit {0}
-RefusesPlan rose held (status.NotBuilt file) = (file ≡ 0) × IfSome held (λ bytes. first_plan bytes ≡ None)
-RefusesPlan rose held status.Ok = ⊥
-RefusesPlan rose held status.Usage = ⊥
-RefusesPlan rose held status.WriteFault = ⊥
-RefusesPlan rose held (status.CaptureBad lane error) = ⊥
+-- A read was refused: its file met a fault (`rose`), memory was wanting, or the status is one that the bytes give.
+abbrev pub Refuses : Type 0 → (Status → Type 0) → Status → Type 0
+Refuses rose gives status.Ok = ⊥
+Refuses rose gives status.Left = ⊥
+Refuses rose gives status.Usage = ⊥
+Refuses rose gives (status.PlanBad error) = gives (status.PlanBad error)
+Refuses rose gives (status.CaptureBad lane error) = gives (status.CaptureBad lane error)
+Refuses rose gives status.ReadFault = rose
+Refuses rose gives status.WriteFault = ⊥
+Refuses rose gives status.NoMemory = Unit {0}
+Refuses rose gives (status.OverLimit limit count) = gives (status.OverLimit limit count)
+Refuses rose gives (status.NotBuilt file) = gives (status.NotBuilt file)
 
--- A capture is refused: its file met a fault, memory was wanting, or it has this answer.
-abbrev pub RefusesCapture : Type 0 → PlainFunction → Option (List ℕ) → Status → Type 0
-RefusesCapture rose function held status.ReadFault = rose
-RefusesCapture rose function held status.NoMemory = Unit {0}
-RefusesCapture rose function held (status.NotBuilt file) = (file ≡ 1) × IfSome held (λ bytes. capture_answer function bytes ≡ status.NotBuilt 1)
-RefusesCapture rose function held (status.CaptureBad lane error) = IfSome held (λ bytes. capture_answer function bytes ≡ status.CaptureBad lane error)
-RefusesCapture rose function held status.Ok = ⊥
-RefusesCapture rose function held status.Usage = ⊥
-RefusesCapture rose function held status.WriteFault = ⊥
+-- the reading of these bytes gives the status
+abbrev pub Gives : {T : Type 0} → (List ℕ → Result T Status) → Option (List ℕ) → Status → Type 0
+Gives reading held refusal = IfSome held (λ bytes. reading bytes ≡ Err refusal)
+
+-- the status says that the file is over this limit, and it is
+abbrev pub IsOver : ℕ → ℕ → Option (List ℕ) → Status → Type 0
+IsOver limit most held refusal = (refusal ≡ status.OverLimit limit (most + 1)) × IfSome held (λ bytes. most < length bytes)
+
+-- one of these captures was refused, which come behind the captures of this tally
+abbrev pub RefusesCaptures : Service → Tally → List (List ℕ) → Faults → Faults → Holds → Status → Type 0
+RefusesCaptures service tally names before now held refusal =
+    Refuses (CaptureRose service tally names before now held)
+    (λ s. (captures : List (List ℕ)) → AreHeld held names captures → captures_answer service tally captures ≡ Some s) refusal
 
 -- Writing stopped: a begin or an append met a fault, or memory was wanting.
 abbrev pub StopsWriting : Type 0 → Status → Type 0
+StopsWriting rose status.Ok = ⊥
+StopsWriting rose status.Left = ⊥
+StopsWriting rose status.Usage = ⊥
+StopsWriting rose (status.PlanBad error) = ⊥
+StopsWriting rose (status.CaptureBad lane error) = ⊥
+StopsWriting rose status.ReadFault = ⊥
 StopsWriting rose status.WriteFault = rose
 StopsWriting rose status.NoMemory = Unit {0}
-StopsWriting rose status.ReadFault = ⊥
-StopsWriting rose status.Ok = ⊥
-StopsWriting rose status.Usage = ⊥
+StopsWriting rose (status.OverLimit limit count) = ⊥
 StopsWriting rose (status.NotBuilt file) = ⊥
-StopsWriting rose (status.CaptureBad lane error) = ⊥

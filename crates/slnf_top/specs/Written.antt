@@ -1,76 +1,78 @@
--- What the files hold after a run that ended with Ok, and what explains them.
-use Rattle.std.specs.Prelude.{◌≡◌, ℕ, Option, Some, None, List, [], ◌∷◌, Result, Ok, zero, suc}
+-- What the files hold after a run, and what explains them.
+use Rattle.std.specs.Prelude.{◌≡◌, ◌⊎◌, ◌==◌, ℕ, if◌then◌else◌, List, Ok}
 use Rattle.slnf_access.specs.declared.requests.Entry.{Entry}
 use Rattle.slnf_base.specs.declared.packets.Verdict.{Verdict}
 use Rattle.slnf_base.specs.declared.plans.Service.{Service}
-use Rattle.slnf_pcap.specs.declared.capture.Capture.{Capture}
-use Rattle.slnf_pcap.specs.Captures.{capture_of}
 use Rattle.slnf_plan.specs.declared.plan.Plan.{Plan}
 use Rattle.slnf_plan.specs.declared.plan.FunctionPlan.TheVariants.{Balancer}
 use Rattle.slnf_plan.specs.Plain.{plain}
+use Rattle.slnf_plan.specs.Reading.{plan_of_bytes}
 use Rattle.slnf_lb.specs.Box.{IsSameMap}
 use Rattle.slnf_flight.specs.declared.lanes.Lane.{Lane}
-use Rattle.slnf_flight.specs.Captures.{packets_of}
 use Rattle.slnf_flight.specs.Run.{IsRun}
 use Rattle.slnf_flight.specs.Scheduled.{IsScheduled}
 use Rattle.slnf_flight.specs.declared.outcomes.Outcome.{Outcome}
 use Rattle.slnf_flight.specs.Verdicts.{verdicts_of, left_in}
-use Rattle.slnf_flight.specs.Output.{output_of}
 use Rattle.slnf_flight.specs.OneBox.{IsOneBox}
 use Rattle.slnf_flight.specs.Pins.{PinsStay}
 use Rattle.slnf_flight.specs.PlanSetting.{lb_setting, lb_box}
-use Rattle.slnf_journal.specs.Journal.{journal_text}
-use Rattle.slnf_journal.specs.Verdicts.{verdicts_text}
-use Rattle.slnf_journal.specs.Summary.{summary_text}
-use Rattle.slnf_top.specs.declared.outputs.Texts.{Texts}
-use Rattle.slnf_top.specs.declared.inputs.Input.{Input}
+use Rattle.slnf_top.specs.declared.statuses.Status.{Status}
+use Rattle.slnf_top.specs.declared.statuses.Status.TheVariants as status
+use Rattle.slnf_top.specs.declared.inputs.Given.{Given}
+use Rattle.slnf_top.specs.declared.steps.Run.{Run}
 use Rattle.slnf_top.specs.Words.{Step}
-use Rattle.slnf_top.specs.Form.{first_plan}
-use Rattle.slnf_top.specs.Texts.{HoldsTexts}
+use Rattle.slnf_top.specs.Effects.{Holds}
+use Rattle.slnf_top.specs.Inputs.{AreRead, bytes_of}
+use Rattle.slnf_top.specs.Files.{files_of, HoldFiles}
 
--- the verdicts of the first lane
-abbrev pub first_lane : List (List Verdict) → List Verdict
-first_lane [] = []
-first_lane (verdicts ∷ lanes) = verdicts
-
--- The outcome is a run of the plan over the lane: its journal is the schedule's, one ordinary balancer explains it, no
--- client's backend changes, and its verdicts are the journal's.
-pub record IsOutcome (plan : Plan) (service : Service) (lane : Lane) (outcome : Outcome) : Type 0 where
-  pub scheduled : IsScheduled (lb_setting plan service (lane ∷ [])) outcome.journal
-  pub run : IsRun (lb_setting plan service (lane ∷ [])) outcome.journal
-  pub one_box : IsOneBox (lb_setting plan service (lane ∷ [])) (lb_box service) IsSameMap outcome.journal
-  pub pins_stay : PinsStay outcome.journal
-  pub verdicts_are : outcome.verdicts ≡ verdicts_of (lb_setting plan service (lane ∷ [])) outcome.journal
-  pub left_is : outcome.left ≡ left_in outcome.verdicts
-
--- A run of the plan over the lane, whose texts these are.
-pub record AreTexts (plan : Plan) (service : Service) (input : Input) (texts : Texts) : Type 0 where
-  -- The journal is the schedule's, and a run.
-  pub journal : List Entry
-  pub scheduled : IsScheduled (lb_setting plan service (input.lane ∷ [])) journal
-  pub run : IsRun (lb_setting plan service (input.lane ∷ [])) journal
-  -- One ordinary balancer explains it, and no client's backend changes.
-  pub one_box : IsOneBox (lb_setting plan service (input.lane ∷ [])) (lb_box service) IsSameMap journal
+-- The journal is the schedule's, and a run of the plan over the lanes; one ordinary balancer explains it, and no client's
+-- backend changes.
+pub record IsExplained (plan : Plan) (service : Service) (lanes : List Lane) (journal : List Entry) : Type 0 where
+  pub scheduled : IsScheduled (lb_setting plan service lanes) journal
+  pub run : IsRun (lb_setting plan service lanes) journal
+  pub one_box : IsOneBox (lb_setting plan service lanes) (lb_box service) IsSameMap journal
   pub pins_stay : PinsStay journal
-  -- The texts are those of the journal and of its verdicts.
-  pub capture_is : texts.capture.items ≡ output_of input.bytes input.capture (first_lane (verdicts_of (lb_setting plan service (input.lane ∷ [])) journal))
-  pub verdicts_is : texts.verdicts.items ≡ verdicts_text (verdicts_of (lb_setting plan service (input.lane ∷ [])) journal)
-  pub journal_is : texts.journal.items ≡ journal_text journal
-  pub summary_is : texts.summary.items ≡ summary_text (verdicts_of (lb_setting plan service (input.lane ∷ [])) journal) journal
 
--- The files hold the texts of a run of the plan and the capture of these bytes. `held` is what the names held before, and
--- `holds` what they hold now.
-pub record IsWritten (step : Step) (plan_bytes bytes : List ℕ) (held holds : List ℕ → Option (List ℕ)) : Type 0 where
-  -- The plan and the lane are those that the bytes spell.
+-- the verdicts of a journal
+abbrev pub verdicts_in : Plan → Service → List Lane → List Entry → List (List Verdict)
+verdicts_in plan service lanes journal = verdicts_of (lb_setting plan service lanes) journal
+
+-- The outcome is such a journal, with its verdicts and the number of packets that are left.
+pub record IsOutcome (plan : Plan) (service : Service) (lanes : List Lane) (outcome : Outcome) : Type 0 where
+  pub explained : IsExplained plan service lanes outcome.journal
+  pub verdicts : outcome.verdicts ≡ verdicts_in plan service lanes outcome.journal
+  pub left : outcome.left ≡ left_in outcome.verdicts
+
+-- The files are those of such a journal, which leaves so many packets.
+pub record IsRunOf (plan : Plan) (service : Service) (out : List ℕ) (given : List Given) (lanes : List Lane) (run : Run) : Type 0 where
+  pub journal : List Entry
+  pub explained : IsExplained plan service lanes journal
+  pub files : run.files ≡ files_of out given (verdicts_in plan service lanes journal) journal
+  pub left : run.left ≡ left_in (verdicts_in plan service lanes journal)
+
+-- how a run ends that leaves so many packets
+abbrev pub status_of : ℕ → Status
+status_of left = if left == 0 then status.Ok else status.Left
+
+-- the run ended
+abbrev pub IsDone : Status → Type 0
+IsDone ended = (ended ≡ status.Ok) ⊎ (ended ≡ status.Left)
+
+-- The files hold the texts of a run of the plan and the captures of these bytes, and the command ended by the number of
+-- packets that are left. `held` is what the names held before, and `holds` what they hold now.
+pub record IsWritten (step : Step) (plan_bytes : List ℕ) (captures : List (List ℕ)) (ended : Status) (held holds : Holds) : Type 0 where
+  -- The plan and the lanes are those that the bytes spell.
   pub plan : Plan
   pub service : Service
-  pub input : Input
-  pub is_plan : first_plan plan_bytes ≡ Some (plain plan)
+  pub given : List Given
+  pub lanes : List Lane
+  pub is_plan : plan_of_bytes plan_bytes ≡ Ok (plain plan)
   pub is_service : plan.function ≡ Balancer service
-  pub is_bytes : input.bytes ≡ bytes
-  pub is_capture : capture_of bytes ≡ Ok input.capture
-  pub is_lane : input.lane.packets ≡ packets_of bytes input.capture
-  -- The texts are those of a run of them, each under its name.
-  pub texts : Texts
-  pub are_texts : AreTexts plan service input texts
-  pub hold_texts : HoldsTexts step.out texts held holds
+  pub are_bytes : bytes_of given ≡ captures
+  pub are_read : AreRead given lanes
+  -- The journal is a run of them, and its texts stand each under its name.
+  pub journal : List Entry
+  pub explained : IsExplained plan service lanes journal
+  pub hold_files : HoldFiles (files_of step.out given (verdicts_in plan service lanes journal) journal) held holds
+  -- Ok where no packet is left, and Left where some are.
+  pub ends : ended ≡ status_of (left_in (verdicts_in plan service lanes journal))

@@ -1,26 +1,29 @@
-ghost use Rattle.std.specs.Prelude.{◌≡◌, ◌≢◌, ◌⊎◌, ◌↔◌, ℕ, List, map, true, None, Some, OnOk, IfErr, string_bytes};
-ghost use Rattle.slnf_shelf.specs.Shelf.{Moves, Rose, SameFiles};
+ghost use Rattle.std.specs.Prelude.{◌≡◌, ◌≤◌, ◌↔◌, ℕ, List, length, map, None, Some, string_bytes};
+ghost use Rattle.slnf_shelf.specs.Shelf.{Moves, SameFiles};
+ghost use Rattle.slnf_plan.specs.declared.plan.FunctionPlan.TheVariants.{Balancer};
 ghost use Rattle.slnf_top.specs.Words.{Step, step_words};
-ghost use Rattle.slnf_top.specs.Effects.{IsOutput, Reads, Calls, WriteRose, NoCalls};
+ghost use Rattle.slnf_top.specs.Effects.{IsOutput, Reads, Calls, ReadRose, WriteRose, NoCalls};
 ghost use Rattle.slnf_top.specs.Answer.{answer};
-ghost use Rattle.slnf_top.specs.Outcome.{IsAnswer, ReadRose, Ended};
-ghost use Rattle.slnf_top.specs.Written.{IsWritten};
+ghost use Rattle.slnf_top.specs.Inputs.{AreHeld, IsBuilt};
+ghost use Rattle.slnf_top.specs.Outcome.{IsAnswer, MayWrite, Ended, EndedUnder};
+ghost use Rattle.slnf_top.specs.Written.{IsDone, IsWritten, status_of};
 
-use crate::inputs::{read_capture_file, read_plan_file};
+use crate::inputs::{read_captures, read_plan_file};
 use crate::outputs::write_files;
 use crate::statuses::Status;
-use crate::steps::texts_of;
+use crate::steps::run_inputs;
 use crate::words::{StepWords, step_words};
 use slnf_base::Service;
 use slnf_plan::{FunctionPlan, Plan};
-use slnf_shelf::{Call, Shelf};
+use slnf_shelf::Shelf;
 use std::alloc::Global;
 
 /// Runs the command of the words, which don't hold the program's name, on the shelf's files, and says how it ended. It
 /// always returns.
 ///
-/// `step PLAN OUT IN` reads the plan and the capture whole, runs the plan over it by the written schedule, and writes
-/// `OUT.0.pcap`, `OUT.verdicts`, `OUT.journal` and the summary line to `-`, in this order.
+/// `step PLAN OUT IN..` reads the plan and its 1 to 32 captures whole, the lanes 0, 1 and so on, and runs the plan over
+/// them by its written schedule. It writes `OUT.0.pcap` and so on for each lane in order, then `OUT.verdicts`,
+/// `OUT.journal`, and the summary line to `-`. One IN may stand twice, and an output may have an input's name.
 pub fn top_plain<S: Shelf>(alloc: Global, words: &[String], shelf: &mut S) -> Status
     // The words are of no form.
     ensures usage { (result ≡ Status.Usage) ↔ (step_words (map string_bytes words.now) ≡ None) }
@@ -31,26 +34,25 @@ pub fn top_plain<S: Shelf>(alloc: Global, words: &[String], shelf: &mut S) -> St
     ensures counts { (step : Step) → step_words (map string_bytes words.now) ≡ Some step
         → Moves (Calls step) (S.faults shelf.old) (S.faults shelf.new) }
     ensures others { (step : Step) → step_words (map string_bytes words.now) ≡ Some step
-        → (name : List ℕ) → ¬ IsOutput step.out name → S.holds shelf.new name ≡ S.holds shelf.old name }
+        → (name : List ℕ) → ¬ IsOutput step.out (length step.captures) name → S.holds shelf.new name ≡ S.holds shelf.old name }
     ensures read_fault { (step : Step) → step_words (map string_bytes words.now) ≡ Some step
-        → result ≡ Status.ReadFault → ReadRose step (S.faults shelf.old) (S.faults shelf.new) (S.holds shelf.old step.plan) }
+        → result ≡ Status.ReadFault → ReadRose step (S.faults shelf.old) (S.faults shelf.new) (S.holds shelf.old) }
     ensures write_fault { (step : Step) → step_words (map string_bytes words.now) ≡ Some step
-        → result ≡ Status.WriteFault → WriteRose step.out (S.faults shelf.old) (S.faults shelf.new) }
+        → result ≡ Status.WriteFault → WriteRose step.out (length step.captures) (S.faults shelf.old) (S.faults shelf.new) }
 
     // Before the writing nothing is begun.
-    ensures nothing_begun { (step : Step) → step_words (map string_bytes words.now) ≡ Some step
-        → result ≢ Status.Ok → result ≢ Status.WriteFault → result ≢ Status.NoMemory
+    ensures nothing_begun { (step : Step) → step_words (map string_bytes words.now) ≡ Some step → ¬ MayWrite result
         → Moves (Reads step) (S.faults shelf.old) (S.faults shelf.new) × SameFiles (S.holds shelf.old) (S.holds shelf.new) }
 
     // Each other answer is that of the files' bytes, where the shelf tells them.
-    ensures answered { (step : Step) (plan bytes : List ℕ) → step_words (map string_bytes words.now) ≡ Some step
-        → S.holds shelf.old step.plan ≡ Some plan → S.holds shelf.old step.capture ≡ Some bytes
-        → IsAnswer result (answer plan bytes) }
+    ensures answered { (step : Step) (plan : List ℕ) (captures : List (List ℕ)) → step_words (map string_bytes words.now) ≡ Some step
+        → S.holds shelf.old step.plan ≡ Some plan → AreHeld (S.holds shelf.old) step.captures captures
+        → IsAnswer result (answer plan captures) }
 
-    // After Ok the files hold the texts of a run, which one ordinary balancer explains.
-    ensures written { (step : Step) (plan bytes : List ℕ) → step_words (map string_bytes words.now) ≡ Some step
-        → S.holds shelf.old step.plan ≡ Some plan → S.holds shelf.old step.capture ≡ Some bytes → result ≡ Status.Ok
-        → IsWritten step plan bytes (S.holds shelf.old) (S.holds shelf.new) }
+    // After Ok and Left the files hold the texts of a run, which one ordinary balancer explains.
+    ensures written { (step : Step) (plan : List ℕ) (captures : List (List ℕ)) → step_words (map string_bytes words.now) ≡ Some step
+        → S.holds shelf.old step.plan ≡ Some plan → AreHeld (S.holds shelf.old) step.captures captures → IsDone result
+        → IsWritten step plan captures result (S.holds shelf.old) (S.holds shelf.new) }
 {
     match step_words(words) {
         None => Status::Usage,
@@ -58,15 +60,11 @@ pub fn top_plain<S: Shelf>(alloc: Global, words: &[String], shelf: &mut S) -> St
     }
 }
 
-ghost use Rattle.slnf_top.specs.Outcome.{EndedUnder};
-ghost use Rattle.slnf_top.specs.Form.{is_first_plan};
-ghost use Rattle.slnf_plan.specs.Plain.{plain};
-ghost use Rattle.slnf_plan.specs.declared.plan.FunctionPlan.TheVariants.{Balancer};
-
 /// Runs `step`.
 fn run_step<S: Shelf>(alloc: Global, shelf: &mut S, step: StepWords<'_>) -> Status
-    ensures { Ended (record { plan = step.entry.plan.now; out = step.entry.out.now; capture = step.entry.capture.now }) result
-        (S.faults shelf.old) (S.faults shelf.new) (S.holds shelf.old) (S.holds shelf.new) }
+    requires { length step.captures.now ≤ 32 }
+    ensures { Ended (record { plan = step.entry.plan.now; out = step.entry.out.now; captures = map string_bytes step.entry.captures.now })
+        result (S.faults shelf.old) (S.faults shelf.new) (S.holds shelf.old) (S.holds shelf.new) }
 {
     match read_plan_file(alloc, shelf, step.plan) {
         Err(status) => status,
@@ -76,8 +74,10 @@ fn run_step<S: Shelf>(alloc: Global, shelf: &mut S, step: StepWords<'_>) -> Stat
 
 /// Runs a plan that passed.
 fn run_plan<S: Shelf>(alloc: Global, shelf: &mut S, step: StepWords<'_>, plan: &Plan) -> Status
-    requires { is_first_plan (plain plan.now) ≡ true }
-    ensures { EndedUnder plan.now step.entry.out.now step.entry.capture.now result
+    requires few { length step.captures.now ≤ 32 }
+    requires built { IsBuilt plan.now }
+    ensures { (service : Service) → plan.now.function ≡ Balancer service
+        → EndedUnder plan.now service step.entry.out.now (map string_bytes step.entry.captures.now) result
         (S.faults shelf.old) (S.faults shelf.new) (S.holds shelf.old) (S.holds shelf.new) }
 {
     match &plan.function {
@@ -90,7 +90,7 @@ fn run_plan<S: Shelf>(alloc: Global, shelf: &mut S, step: StepWords<'_>, plan: &
     }
 }
 
-/// Runs a balancer's plan: reads the capture, makes the texts, and writes them.
+/// Runs a balancer's plan: reads the captures, makes the files, and writes them.
 fn run_balancer<S: Shelf>(
     alloc: Global,
     shelf: &mut S,
@@ -98,21 +98,29 @@ fn run_balancer<S: Shelf>(
     plan: &Plan,
     service: &Service,
 ) -> Status
-    requires form { is_first_plan (plain plan.now) ≡ true }
+    requires few { length step.captures.now ≤ 32 }
+    requires one_by_one { plan.now.batch ≡ 1 }
     requires service { plan.now.function ≡ Balancer service.now }
-    ensures { EndedUnder plan.now step.entry.out.now step.entry.capture.now result
+    ensures { EndedUnder plan.now service.now step.entry.out.now (map string_bytes step.entry.captures.now) result
         (S.faults shelf.old) (S.faults shelf.new) (S.holds shelf.old) (S.holds shelf.new) }
 {
-    let input = match read_capture_file(alloc, shelf, step.capture, service) {
-        Ok(input) => input,
+    let inputs = match read_captures(alloc, shelf, step.captures, service) {
+        Ok(inputs) => inputs,
         Err(status) => return status,
     };
-    let texts = match texts_of(alloc, plan, service, &input) {
-        Ok(texts) => texts,
+    let run = match run_inputs(alloc, plan, service, step.out, &inputs) {
+        Ok(run) => run,
         Err(_) => return Status::NoMemory,
     };
-    match write_files(alloc, shelf, step.out, &texts) {
-        Ok(()) => Status::Ok,
+    match write_files(shelf, run.files.as_slice()) {
+        Ok(()) => ending(run.left),
         Err(status) => status,
     }
+}
+
+/// How a run ends that leaves so many packets.
+fn ending(left: u64) -> Status
+    ensures { result ≡ status_of left }
+{
+    if left == 0 { Status::Ok } else { Status::Left }
 }

@@ -2,8 +2,9 @@
 #![tactic(auto)]
 
 mod commands;
-mod forms;
 mod inputs;
+#[cfg(test)]
+mod limit_tests;
 mod names;
 mod outputs;
 mod statuses;

@@ -3,16 +3,21 @@ ghost use Rattle.slnf_top.specs.declared.statuses.Status.TheVariants.{NoMemory a
 
 use slnf_base::NoMemory;
 use slnf_pcap::PcapError;
+use slnf_plan::PlanError;
 use std::alloc::{AllocError, AllocFailed};
 use std::fmt;
 
-/// How a command ended. File 0 of `NotBuilt` is the plan, and file 1 the capture.
-#[derive(Clone, Copy, Debug, PartialEq, Eq)]
+/// How a command ended. Lanes are counted from 0.
+#[derive(Debug, Drop)]
 pub enum Status {
     /// Every packet has a verdict.
     Ok,
+    /// Some packet was taken by no instance.
+    Left,
     /// The words are of no form.
     Usage,
+    /// The plan's file is no plan, by the error's rule.
+    PlanBad(PlanError),
     /// The lane's file is no capture, by the error's rule.
     CaptureBad { lane: u32, error: PcapError },
     /// A file couldn't be read.
@@ -21,7 +26,11 @@ pub enum Status {
     WriteFault,
     /// Memory was wanting.
     NoMemory,
-    /// The file asks for what isn't built yet.
+    /// There is more to read than the limit with this number allows: so many bytes of the plan (1), of one capture
+    /// (2) or of the captures up to and with this one (3), or so many packets of these captures (4). Of a file that
+    /// is too long, one byte more than its limit is read and counted.
+    OverLimit { limit: u8, count: u64 },
+    /// The file asks for what isn't built yet. File 0 is the plan, and file 1 + k is lane k.
     NotBuilt { file: u32 },
 }
 
@@ -34,11 +43,14 @@ impl Status {
     {
         match self {
             Status::Ok => 0,
+            Status::Left => 1,
             Status::Usage => 2,
+            Status::PlanBad(_) => 3,
             Status::CaptureBad { lane: _, error: _ } => 4,
             Status::ReadFault => 5,
             Status::WriteFault => 6,
             Status::NoMemory => 7,
+            Status::OverLimit { limit: _, count: _ } => 10,
             Status::NotBuilt { file: _ } => 11,
         }
     }
@@ -87,7 +99,13 @@ impl fmt::Display for Status {
     fn fmt<W: fmt::Write>(&self, f: &mut fmt::Formatter<W>) -> fmt::Result {
         match self {
             Status::Ok => write!(f, "ok"),
+            Status::Left => write!(f, "left"),
             Status::Usage => write!(f, "usage: step PLAN OUT IN"),
+            Status::PlanBad(error) => {
+                let number = error.number().unwrap_or(0);
+                let path = error.path().unwrap_or("");
+                write!(f, "plan error {number} at {path}")
+            }
             Status::CaptureBad { lane, error } => {
                 let number = error_number(error);
                 write!(f, "capture of lane {lane}: error {number}")
@@ -95,6 +113,7 @@ impl fmt::Display for Status {
             Status::ReadFault => write!(f, "read fault"),
             Status::WriteFault => write!(f, "write fault"),
             Status::NoMemory => write!(f, "no memory"),
+            Status::OverLimit { limit, count: _ } => write!(f, "over limit {limit}"),
             Status::NotBuilt { file: _ } => write!(f, "not built yet"),
         }
     }

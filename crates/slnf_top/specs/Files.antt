@@ -1,0 +1,60 @@
+-- The files of a run, and writing them one after another.
+use Rattle.std.specs.Prelude.{◌≡◌, ◌⊎◌, ℕ, ◌+◌, List, [], ◌∷◌, ◌++◌}
+use Rattle.slnf_base.specs.declared.packets.Verdict.{Verdict}
+use Rattle.slnf_access.specs.declared.requests.Entry.{Entry}
+use Rattle.slnf_shelf.specs.declared.shelf.Call.{Call}
+use Rattle.slnf_shelf.specs.declared.shelf.Call.TheVariants.{Read, Begin, Append}
+use Rattle.slnf_shelf.specs.Shelf.{Faults, Rose, SameFiles, SameOthers, set_to}
+use Rattle.slnf_flight.specs.Output.{output_of}
+use Rattle.slnf_journal.specs.Journal.{journal_text}
+use Rattle.slnf_journal.specs.Verdicts.{verdicts_text}
+use Rattle.slnf_journal.specs.Summary.{summary_text}
+use Rattle.slnf_top.specs.declared.inputs.Given.{Given}
+use Rattle.slnf_top.specs.declared.outputs.File.{File}
+use Rattle.slnf_top.specs.Names.{capture_name, verdicts_name, journal_name, summary_name}
+use Rattle.slnf_top.specs.Effects.{Holds}
+
+-- the output captures of these lanes, of which the first has this number
+abbrev pub capture_files : List ℕ → ℕ → List Given → List (List Verdict) → List File
+capture_files out lane [] verdicts = []
+capture_files out lane (given ∷ more) [] = []
+capture_files out lane (given ∷ more) (verdicts ∷ others) =
+    record { name = capture_name out lane; text = output_of given.bytes given.capture verdicts } ∷ capture_files out (lane + 1) more others
+
+-- the files of a run, in the order in which they are written
+abbrev pub files_of : List ℕ → List Given → List (List Verdict) → List Entry → List File
+files_of out given verdicts journal =
+    capture_files out 0 given verdicts
+    ++ record { name = verdicts_name out; text = verdicts_text verdicts }
+    ∷ record { name = journal_name out; text = journal_text journal }
+    ∷ record { name = summary_name; text = summary_text verdicts journal } ∷ []
+
+-- each of these files holds its text, where the shelf tells what it held
+abbrev pub HoldFiles : List File → Holds → Holds → Type 0
+HoldFiles [] held holds = Unit {0}
+HoldFiles (file ∷ files) held holds = (holds file.name ≡ set_to file.text (held file.name)) × HoldFiles files held holds
+
+-- the name is that of one of these files
+abbrev pub IsNamed : List File → List ℕ → Type 0
+IsNamed [] name = ⊥
+IsNamed (file ∷ files) name = (name ≡ file.name) ⊎ IsNamed files name
+
+-- the begins and appends of these files
+abbrev pub WritesFiles : List File → Call → List ℕ → Type 0
+WritesFiles files Read name = ⊥
+WritesFiles files Begin name = IsNamed files name
+WritesFiles files Append name = IsNamed files name
+
+-- one of them met a fault
+abbrev pub FileRose : List File → Faults → Faults → Type 0
+FileRose files before now = (name : List ℕ) × IsNamed files name × (Rose Begin name before now ⊎ Rose Append name before now)
+
+-- One file was written.
+pub record WroteOne (file : File) (held holds : Holds) : Type 0 where
+  pub text : holds file.name ≡ set_to file.text (held file.name)
+  pub others : SameOthers file.name held holds
+
+-- these files were written one after another
+abbrev pub Wrote : List File → Holds → Holds → Type 0
+Wrote [] held holds = SameFiles held holds
+Wrote (file ∷ files) held holds = (middle : Holds) × WroteOne file held middle × Wrote files middle holds
