@@ -1,6 +1,8 @@
 //! The commands: files in, files out, and a status.
 #![tactic(auto)]
 
+#[cfg(test)]
+mod breadth_tests;
 mod commands;
 mod inputs;
 #[cfg(test)]
