@@ -469,3 +469,50 @@ fn many_lanes(rt: HostRuntime) -> Result<(), Failed> {
     );
     Ok(())
 }
+
+/// A plan of 1000 epochs, each of which takes one packet.
+#[test]
+fn many_epochs(rt: HostRuntime) -> Result<(), Failed> {
+    let alloc = rt.alloc();
+    let mut shelf = empty_shelf(alloc);
+    let epoch = "[[epoch]]\ninstances = [{ lane = 0, quota = 1 }]\n";
+    let epochs = epoch.repeat(alloc, 1000)?;
+    shelf.put("plan.toml", plan_of(alloc, epochs.as_str())?.as_bytes())?;
+    let capture = capture_of(alloc, 1000, &PACKET)?;
+    shelf.put("in.0.pcap", capture.as_slice())?;
+    assert_eq!(rt; run(alloc, &mut shelf, "out", 1)?.code(), 0);
+    assert!(rt;
+        holds(
+            &mut shelf,
+            "-",
+            b"packets 1000 emitted 1000 dropped 0 lost 0 left 0 entries 1001\n"
+        )?
+    );
+    Ok(())
+}
+
+/// 32 instances with 10,016 packets in all: each reads for each packet, and puts once more for its first.
+#[test]
+fn many_instances(rt: HostRuntime) -> Result<(), Failed> {
+    let alloc = rt.alloc();
+    let mut shelf = empty_shelf(alloc);
+    let mut epoch = String::from_str(alloc, "[[epoch]]\ninstances = [{ lane = 0 }")?;
+    for lane in 1..32 {
+        epoch.push_str(format!(in alloc; ", {{ lane = {lane} }}")?.as_str())?;
+    }
+    epoch.push_str("]\n")?;
+    shelf.put("plan.toml", plan_of(alloc, epoch.as_str())?.as_bytes())?;
+    let capture = capture_of(alloc, 313, &PACKET)?;
+    for lane in 0..32 {
+        shelf.put(input_name(alloc, lane)?.as_str(), capture.as_slice())?;
+    }
+    assert_eq!(rt; run(alloc, &mut shelf, "out", 32)?.code(), 0);
+    assert!(rt;
+        holds(
+            &mut shelf,
+            "-",
+            b"packets 10016 emitted 10016 dropped 0 lost 0 left 0 entries 10048\n"
+        )?
+    );
+    Ok(())
+}
