@@ -1,38 +1,21 @@
 -- The balancer is one box: what its own law says of one access, over whole lists.
-use Rattle.std.proofs.Common.{◌≡◌, ℕ, Bool, true, false, Option, Some, None, List, [], ◌∷◌, length, slice_get, refl, ap, sym, ◌∙◌, subst}
-use Rattle.std.specs.Prelude.{IsTrue}
-use Rattle.std.specs.List.{list_all}
-use Rattle.slnf_base.specs.declared.addresses.Pair.{Pair}
-use Rattle.slnf_base.specs.declared.packets.Packet.{Packet}
-use Rattle.slnf_base.specs.declared.packets.Reason.{Reason}
-use Rattle.slnf_base.specs.declared.packets.Reason.TheVariants.{Neither}
-use Rattle.slnf_base.specs.declared.packets.Verdict.{Verdict}
-use Rattle.slnf_base.specs.declared.packets.Verdict.TheVariants.{Dropped}
+use Rattle.std.proofs.Common.{◌≡◌, ℕ, Some, None, List, [], ◌∷◌, refl}
 use Rattle.slnf_base.specs.declared.plans.Service.{Service}
 use Rattle.slnf_access.specs.declared.requests.Entry.{Entry}
-use Rattle.slnf_access.specs.declared.functions.Start.{Start}
-use Rattle.slnf_access.specs.declared.functions.Start.TheVariants.{Go as StartGo, Over as StartOver}
-use Rattle.slnf_access.specs.Map.{key_of, reply_to, Cells, empty, map_after, IsLegal}
-use Rattle.slnf_access.specs.Machines.{Stand, Flies, Ends, stand_of_start, stand_of_step, stand_after, IsPath}
+use Rattle.slnf_access.specs.Map.{Cells, map_after, IsLegal}
+use Rattle.slnf_access.specs.Machines.{Stand, Flies, Ends, stand_of_step, IsPath}
 use Rattle.slnf_plan.specs.declared.plan.Plan.{Plan}
-use Rattle.slnf_plan.specs.declared.plan.Epoch.{Epoch}
-use Rattle.slnf_keys.specs.Layout.{IsPair}
-use Rattle.slnf_lb.specs.declared.flights.LbState.TheVariants.{Forward, Put, Return}
 use Rattle.slnf_lb.specs.Flight.{Flying}
-use Rattle.slnf_lb.specs.Machine.{is_forward, is_return, choice_of, lb_begins, lb_goes, lb_machine}
-use Rattle.slnf_lb.specs.Box.{Pins, no_pins, lb_verdict, lb_next, IsSameMap}
-use Rattle.slnf_lb.specs.Kept.{HasDirection, IsFlight, IsKeptUp}
-use Rattle.slnf_lb.specs.Ranges.{is_pair}
+use Rattle.slnf_lb.specs.Machine.{lb_goes, lb_machine}
+use Rattle.slnf_lb.specs.Box.{Pins, IsSameMap}
+use Rattle.slnf_lb.specs.Kept.{IsFlight, IsKeptUp}
 use Rattle.slnf_lb.proofs.Laws.{lb_kept, same-empty}
 use Rattle.slnf_flight.specs.declared.lanes.Lane.{Lane}
-use Rattle.slnf_flight.specs.declared.lanes.Taken.{Taken}
-use Rattle.slnf_flight.specs.declared.lanes.Taken.TheVariants.{Seen, Bad}
-use Rattle.slnf_flight.specs.Setting.{Setting, era_of}
+use Rattle.slnf_flight.specs.Setting.{Setting}
 use Rattle.slnf_flight.specs.Parts.{part_of, of_item}
-use Rattle.slnf_flight.specs.Places.{Box}
 use Rattle.slnf_flight.specs.OneBox.{IsOneBox}
-use Rattle.slnf_flight.specs.Keeps.{IsNext, IsKept, Keeps, Anything}
-use Rattle.slnf_flight.specs.PlanSetting.{eras_of, active_in, lane_of, packet_at, begins_with, all_actors, plan_setting, lb_setting, lb_box}
+use Rattle.slnf_flight.specs.Keeps.{IsKept, Keeps, Anything}
+use Rattle.slnf_flight.specs.PlanSetting.{lb_setting, lb_box}
 use Rattle.slnf_flight.proofs.BoxLaws.{one_box_of_paths}
 
 -- what the function's crate says of an access is what a box that keeps up owes

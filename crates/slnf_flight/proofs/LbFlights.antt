@@ -1,33 +1,30 @@
 -- The packets of a balancer's setting begin as flights of its function: their pairs are in range.
-use Rattle.std.proofs.Common.{◌≡◌, ℕ, zero, suc, ◌^◌, ◌<◌, Bool, true, false, cond, Option, Some, None, List, [], ◌∷◌, refl, ap, sym, ◌∙◌, subst}
-use Rattle.std.specs.Prelude.{IsTrue, ◌&&◌, nat_lt, slice_get, slice_index_or, filter_map}
+use Rattle.std.proofs.Common.{◌≡◌, ℕ, zero, suc, ◌^◌, Bool, true, false, cond, Option, Some, None, List, [], ◌∷◌, refl, ap, sym, ◌∙◌, subst}
+use Rattle.std.specs.Prelude.{IsTrue, nat_lt, slice_get, slice_index_or, filter_map}
 use Rattle.std.specs.List.{list_all, cons_option}
 use Rattle.std.specs.Option.{option_and_then}
 use Rattle.std.proofs.lemmas.Bool.{and_parts, and_from}
 use borrow.Author.Tests.{ltb-true}
 use Rattle.slnf_base.specs.declared.addresses.Pair.{Pair}
 use Rattle.slnf_base.specs.declared.packets.Packet.{Packet}
-use Rattle.slnf_base.specs.declared.packets.Reason.{Reason}
 use Rattle.slnf_base.specs.declared.packets.Reason.TheVariants.{Neither}
 use Rattle.slnf_base.specs.declared.packets.Verdict.{Verdict}
 use Rattle.slnf_base.specs.declared.plans.Service.{Service}
-use Rattle.slnf_access.specs.declared.functions.Start.{Start}
 use Rattle.slnf_access.specs.declared.functions.Start.TheVariants.{Go as StartGo, Over as StartOver}
 use Rattle.slnf_access.specs.Machines.{Stand, Flies, Ends, stand_of_start}
 use Rattle.slnf_plan.specs.declared.plan.Plan.{Plan}
 use Rattle.slnf_plan.specs.declared.plan.Epoch.{Epoch}
 use Rattle.slnf_keys.specs.Layout.{IsPair}
-use Rattle.slnf_lb.specs.declared.flights.LbState.{LbState}
-use Rattle.slnf_lb.specs.declared.flights.LbState.TheVariants.{Forward, Put, Return}
+use Rattle.slnf_lb.specs.declared.flights.LbState.TheVariants.{Forward, Return}
 use Rattle.slnf_lb.specs.Flight.{Flying}
 use Rattle.slnf_lb.specs.Machine.{is_forward, is_return, choice_of, lb_begins}
-use Rattle.slnf_lb.specs.Kept.{HasDirection, IsFlight}
+use Rattle.slnf_lb.specs.Kept.{IsFlight}
 use Rattle.slnf_lb.specs.Ranges.{is_pair}
 use Rattle.slnf_flight.specs.declared.lanes.Lane.{Lane}
 use Rattle.slnf_flight.specs.declared.lanes.Taken.{Taken}
 use Rattle.slnf_flight.specs.declared.lanes.Taken.TheVariants.{Seen, Bad}
 use Rattle.slnf_flight.specs.Ranges.{is_taken}
-use Rattle.slnf_flight.specs.PlanSetting.{backends_at, active_in, packet_at, begins_with, lb_setting}
+use Rattle.slnf_flight.specs.PlanSetting.{active_in, packet_at, begins_with, lb_setting}
 use Rattle.slnf_flight.proofs.LbBox.{BeginsFlights}
 
 -- a pair that passes the test is in range

@@ -1,8 +1,7 @@
 -- No client's backend changes.
-use Rattle.std.proofs.Common.{◌≡◌, ℕ, zero, suc, ◌+◌, ◌-◌, ◌≤◌, Option, Some, None, List, [], ◌∷◌, ◌++◌, length, take, drop, refl, ap, sym, ◌∙◌, subst, arith}
-use Rattle.std.proofs.lemmas.List.{take-append-drop, drop-take}
+use Rattle.std.proofs.Common.{◌≡◌, ℕ, zero, suc, ◌≤◌, Option, Some, None, List, [], ◌∷◌, ◌++◌, take, drop, refl, ap, sym, ◌∙◌, subst, arith}
+use Rattle.std.proofs.lemmas.List.{take-append-drop}
 use Rattle.slnf_base.specs.declared.addresses.Pair.{Pair}
-use Rattle.slnf_base.specs.declared.packets.Proto.{Proto}
 use Rattle.slnf_base.specs.declared.plans.Service.{Service}
 use Rattle.slnf_access.specs.declared.requests.Held.{Held}
 use Rattle.slnf_access.specs.declared.requests.Entry.{Entry}
@@ -11,9 +10,8 @@ use Rattle.slnf_access.specs.Machines.{IsPath}
 use Rattle.slnf_access.proofs.Laws.{cell_of-append}
 use Rattle.slnf_plan.specs.declared.plan.Plan.{Plan}
 use Rattle.slnf_keys.specs.Keys.{pin_key_number}
-use Rattle.slnf_lb.specs.Flight.{Flying}
 use Rattle.slnf_lb.specs.Machine.{lb_machine}
-use Rattle.slnf_lb.specs.Box.{backend_in, pin_at}
+use Rattle.slnf_lb.specs.Box.{backend_in}
 use Rattle.slnf_lb.proofs.Laws.{held_stays}
 use Rattle.slnf_flight.specs.declared.lanes.Lane.{Lane}
 use Rattle.slnf_flight.specs.Parts.{part_of, of_item}

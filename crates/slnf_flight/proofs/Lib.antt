@@ -25,3 +25,14 @@ pub mod BoxLaws
 pub mod LbBox
 pub mod LbFlights
 pub mod LbPins
+pub mod Stopping
+pub mod Tables
+pub mod Partings
+pub mod Sharing
+pub mod PlanSettings
+pub mod Numbers
+pub mod Following
+pub mod Rows
+pub mod Giving
+pub mod Posting
+pub mod Whole

@@ -6,16 +6,11 @@ use Rattle.slnf_access.specs.declared.requests.Entry.{Entry}
 use Rattle.slnf_access.specs.declared.requests.Ask.{Ask}
 use Rattle.slnf_access.specs.Machines.{Stand, Flies, Ends, HasEnded}
 use Rattle.slnf_flight.specs.Setting.{Actor, Setting}
-use Rattle.slnf_flight.specs.Parts.{part_of, stand_of, first_key_of, Offer, is_among, with_key, batched, within_quota, offers_of, is_stopped}
+use Rattle.slnf_flight.specs.Parts.{part_of, stand_of, first_key_of, Offer, is_among, with_key, batched, one_by_one, within_quota, offers_of, is_stopped}
 use Rattle.slnf_flight.specs.Run.{AllEnded}
 use Rattle.slnf_flight.specs.Scheduled.{Wish, comes_before, sooner, first_of_wishes, wish_of, wishes_of, ask_of, wanted}
 use Rattle.slnf_flight.proofs.Lists.{Every, every-weaker}
 use Rattle.slnf_flight.proofs.Wishes.{below_or-above, first_meets}
-
--- each of these items in a batch of its own, from this number on
-abbrev pub one_by_one : ℕ → List ℕ → List Offer
-one_by_one number [] = []
-one_by_one number (item ∷ items) = record { item = item; batch = number } ∷ one_by_one (number + 1) items
 
 batched_of_ones : (first : ℕ → Option ℕ) (number : ℕ) (keys items : List ℕ) → batched 1 first number 1 keys items ≡ one_by_one (number + 1) items
 batched_of_ones first number keys [] = refl

@@ -12,3 +12,7 @@ pub mod Pins
 pub mod Captures
 pub mod Output
 pub mod Functions
+pub mod Lanes
+pub mod Tables
+pub mod Shares
+pub mod Standings

@@ -49,6 +49,11 @@ batched limit first number size keys (item ∷ items) =
     then record { item = item; batch = number } ∷ batched limit first number (size + 1) (with_key (first item) keys) items
     else record { item = item; batch = number + 1 } ∷ batched limit first (number + 1) 1 (with_key (first item) []) items
 
+-- each of these items in a batch of its own, from this number on
+abbrev pub one_by_one : ℕ → List ℕ → List Offer
+one_by_one number [] = []
+one_by_one number (item ∷ items) = record { item = item; batch = number } ∷ one_by_one (number + 1) items
+
 -- at most so many, where there is a quota
 abbrev pub within_quota : Option ℕ → ℕ → ℕ
 within_quota None count = count

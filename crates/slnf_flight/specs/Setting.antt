@@ -1,6 +1,6 @@
 -- A setting: what a plan and its captures fix of a run. All definitions of runs speak of settings, and of no
 -- plan's format. A flight is of the type F.
-use Rattle.std.specs.Prelude.{ℕ, ◌-◌, ◌+◌, Bool, false, ◌==◌, nat_lt, if◌then◌else◌, Option, Some, None, List, [], ◌∷◌, length}
+use Rattle.std.specs.Prelude.{ℕ, zero, suc, ◌-◌, ◌+◌, Bool, false, ◌==◌, nat_lt, if◌then◌else◌, Option, Some, None, List, [], ◌∷◌, length}
 use Rattle.slnf_base.specs.declared.packets.Verdict.{Verdict}
 use Rattle.slnf_access.specs.Machines.{Machine, Stand}
 
@@ -40,3 +40,9 @@ abbrev pub era_of : List Era → ℕ → ℕ
 era_of [] incarnation = 0
 era_of (era ∷ eras) incarnation =
     if nat_lt incarnation (length era.actors) then 0 else era_of eras (incarnation - length era.actors) + 1
+
+-- the first incarnation of the epoch with this number
+abbrev pub base_of : List Era → ℕ → ℕ
+base_of eras zero = 0
+base_of [] (suc number) = 0
+base_of (era ∷ eras) (suc number) = length era.actors + base_of eras number

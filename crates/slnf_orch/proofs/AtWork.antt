@@ -22,8 +22,10 @@ use Rattle.slnf_flight.specs.Scheduled.{wanted, turns, round, NobodyWants}
 use Rattle.slnf_flight.proofs.Laws.{turns-append}
 use Rattle.slnf_orch.specs.declared.workers.Worker.{Worker}
 use Rattle.slnf_orch.specs.Work.{EachFrom, IsRunBy, IsSettled, IsWithin, IsMade, actor_of, packet_of}
-use Rattle.slnf_orch.specs.Epochs.{EachAt, packets_of, packets_in, AreWithin, AreAtWork, IsTurned, AreDone}
-use Rattle.slnf_orch.specs.Ledger.{verdicts_at, places_in, or_none, given_on, IsFitting, IsMadeAt, AreMade}
+use Rattle.slnf_flight.specs.Lanes.{or_no_packets, packets_on}
+use Rattle.slnf_orch.specs.Epochs.{EachAt, AreWithin, AreAtWork, IsTurned, AreDone}
+use Rattle.slnf_flight.specs.Tables.{or_empty}
+use Rattle.slnf_orch.specs.Ledger.{verdicts_at, places_in, given_on, IsFitting, IsMadeAt, AreMade}
 use Rattle.slnf_orch.specs.Passing.{AreRunBy, lane_number, IsFinishedAt, HasPassed}
 use Rattle.slnf_orch.proofs.Finishing.{finished}
 use Rattle.slnf_orch.proofs.Leaving.{none_given, apart_first, rest_of}
@@ -31,9 +33,9 @@ use Rattle.slnf_orch.proofs.Leaving.{none_given, apart_first, rest_of}
 -- workers that were made for an epoch stand before its first access
 pub at_work_made : {F : Type 0} (s : Setting F) (es : List Entry) (lanes : List Lane) (begins : ℕ → ℕ → Packet → Start F) (asks : F → Request) (goes : F → Reply → Step F) (base : ℕ) (instances : List InstancePlan) (ledger : List (List Verdict)) (actors : List Actor) (workers : List (Worker F)) → AreMade lanes begins asks goes base instances ledger workers → actors ≡ map instance_actor instances → AreRunBy s lanes begins asks goes base instances → ((i : ℕ) → base ≤ i → part_of i es ≡ []) → AreAtWork s es lanes begins asks goes base (places_in ledger) actors workers
 at_work_made s es lanes begins asks goes base instances ledger actors workers made are runs fresh =
-    let by : EachAt (λ k w. IsRunBy s w.incarnation w.instance.lane (packets_in lanes w.instance.lane) begins asks goes) workers =
+    let by : EachAt (λ k w. IsRunBy s w.incarnation w.instance.lane (packets_on lanes w.instance.lane) begins asks goes) workers =
     λ k w there. let m = made.each k w there in
-    subst (λ i. IsRunBy s i w.instance.lane (packets_in lanes w.instance.lane) begins asks goes) (sym m.incarnation) (runs k w.instance m.instance) in
+    subst (λ i. IsRunBy s i w.instance.lane (packets_on lanes w.instance.lane) begins asks goes) (sym m.incarnation) (runs k w.instance m.instance) in
     record {
       count = made.count ∙ sym (ap length are ∙ length-map instances instance_actor);
       posted = λ k w there. let m = made.each k w there in record {
@@ -64,8 +66,8 @@ record IsThere {F : Type 0} (s : Setting F) (fs : List Entry) (lanes : List Lane
   incarnation_is : w.incarnation ≡ incarnation
   at_is : w.at ≡ places w.instance.lane
   one : s.batch ≡ 1
-  lanes_are : slice_index s.lanes w.instance.lane ≡ length (packets_in lanes w.instance.lane)
-  within : IsWithin (packets_in lanes w.instance.lane) w
+  lanes_are : slice_index s.lanes w.instance.lane ≡ length (packets_on lanes w.instance.lane)
+  within : IsWithin (packets_on lanes w.instance.lane) w
   settled : IsSettled s fs w
 
 are_finished : {F : Type 0} (s : Setting F) (fs : List Entry) (lanes : List Lane) (places : ℕ → ℕ) (base : ℕ) (workers : List (Worker F)) → EachAt (λ k w. IsThere s fs lanes places (base + k) w) workers → NobodyWants s places fs base (map (λ w. actor_of w) workers) → EachFrom (IsFinishedAt s fs places) base workers
@@ -77,7 +79,7 @@ are_finished s fs lanes places base (w ∷ workers) h nobody =
       record {
         incarnation_is = t.incarnation_is;
         at_is = t.at_is;
-        finished = finished s fs (packets_in lanes w.instance.lane) w t.one t.lanes_are t.within t.settled nothing;
+        finished = finished s fs (packets_on lanes w.instance.lane) w t.one t.lanes_are t.within t.settled nothing;
       },
       are_finished s fs lanes places (base + 1) workers
           (λ k x there. let q : base + suc k ≡ base + 1 + k = omega arith in subst (λ i. IsThere s fs lanes places i x) q (h (suc k) x there))
@@ -91,10 +93,10 @@ beyond lanes lane (w ∷ workers) l h =
     let rest : given_on lane workers ≡ [] = beyond lanes lane workers l (λ k x there. h (suc k) x there) in
     elim (cases_eq w.instance.lane lane) [
       | inl e ↦
-          let within : IsWithin (packets_in lanes w.instance.lane) w = h 0 w refl in
-          let none : packets_in lanes w.instance.lane ≡ [] = ap packets_of (slice_get_past lanes w.instance.lane (omega arith)) in
-          let count : length (packets_in lanes w.instance.lane) ≡ 0 = ap length none in
-          let inside : w.end ≤ length (packets_in lanes w.instance.lane) = within.inside in
+          let within : IsWithin (packets_on lanes w.instance.lane) w = h 0 w refl in
+          let none : packets_on lanes w.instance.lane ≡ [] = ap or_no_packets (slice_get_past lanes w.instance.lane (omega arith)) in
+          let count : length (packets_on lanes w.instance.lane) ≡ 0 = ap length none in
+          let inside : w.end ≤ length (packets_on lanes w.instance.lane) = within.inside in
           let upto : packet_of w ≤ w.end = within.upto in
           let nothing : w.verdicts.items ≡ [] = nil_from_length w.verdicts.items (omega arith) in
           ap (λ l. l ++ given_on lane workers) (cond-true (w.instance.lane == lane) w.verdicts.items [] (eq-eqb w.instance.lane lane e) ∙ nothing) ∙ rest
@@ -105,8 +107,8 @@ given_all : {F : Type 0} (lanes : List Lane) (ledger after : List (List Verdict)
 given_all lanes ledger after workers lane count same within given = elim (cases_lt lane (length ledger)) [
   | inl l ↦ given l
   | inr l ↦
-      let old : verdicts_at ledger lane ≡ [] = ap or_none (slice_get_past ledger lane l) in
-      let new : verdicts_at after lane ≡ [] = ap or_none (slice_get_past after lane (omega arith)) in
+      let old : verdicts_at ledger lane ≡ [] = ap or_empty (slice_get_past ledger lane l) in
+      let new : verdicts_at after lane ≡ [] = ap or_empty (slice_get_past after lane (omega arith)) in
       let none : given_on lane workers ≡ [] = beyond lanes lane workers (omega arith) within in
       new ∙ (sym none ∙ ap (λ l. l ++ given_on lane workers) (sym old))
 ]
@@ -138,7 +140,7 @@ passed s es fs gs lanes begins asks goes base era ledger after workers ended tur
     }
 
 -- lanes come no farther than their packets
-fitting_next : {F : Type 0} (s : Setting F) (fs : List Entry) (lanes : List Lane) (places : ℕ → ℕ) (lane base : ℕ) (workers : List (Worker F)) → EachFrom (IsFinishedAt s fs places) base workers → AreWithin lanes workers → are_distinct (map (λ (w : Worker F). w.instance.lane) workers) ≡ true → places lane ≤ length (packets_in lanes lane) → places lane + length (given_on lane workers) ≤ length (packets_in lanes lane)
+fitting_next : {F : Type 0} (s : Setting F) (fs : List Entry) (lanes : List Lane) (places : ℕ → ℕ) (lane base : ℕ) (workers : List (Worker F)) → EachFrom (IsFinishedAt s fs places) base workers → AreWithin lanes workers → are_distinct (map (λ (w : Worker F). w.instance.lane) workers) ≡ true → places lane ≤ length (packets_on lanes lane) → places lane + length (given_on lane workers) ≤ length (packets_on lanes lane)
 fitting_next {F = F} s fs lanes places lane base [] h within apart fits = omega arith
 fitting_next {F = F} s fs lanes places lane base (w ∷ workers) h within apart fits = elim (cases_eq w.instance.lane lane) [
   | inl e ↦
@@ -148,11 +150,11 @@ fitting_next {F = F} s fs lanes places lane base (w ∷ workers) h within apart 
       let given : given_on lane (w ∷ workers) ≡ w.verdicts.items =
       ap (λ l. l ++ given_on lane workers) (cond-true (w.instance.lane == lane) w.verdicts.items [] (eq-eqb w.instance.lane lane e))
       ∙ (ap (λ l. w.verdicts.items ++ l) alone ∙ append-nil w.verdicts.items) in
-      let inner : IsWithin (packets_in lanes w.instance.lane) w = within 0 w refl in
-      let inside : w.end ≤ length (packets_in lanes w.instance.lane) = inner.inside in
+      let inner : IsWithin (packets_on lanes w.instance.lane) w = within 0 w refl in
+      let inside : w.end ≤ length (packets_on lanes w.instance.lane) = inner.inside in
       let upto : packet_of w ≤ w.end = inner.upto in
       let at : w.at ≡ places w.instance.lane = h.0.at_is in
-      let same : length (packets_in lanes w.instance.lane) ≡ length (packets_in lanes lane) = ap (λ l. length (packets_in lanes l)) e in
+      let same : length (packets_on lanes w.instance.lane) ≡ length (packets_on lanes lane) = ap (λ l. length (packets_on lanes l)) e in
       let from : places w.instance.lane ≡ places lane = ap places e in
       let count : length (given_on lane (w ∷ workers)) ≡ length w.verdicts.items = ap length given in
       omega arith
@@ -160,7 +162,7 @@ fitting_next {F = F} s fs lanes places lane base (w ∷ workers) h within apart 
       let given : given_on lane (w ∷ workers) ≡ given_on lane workers =
       ap (λ l. l ++ given_on lane workers) (cond-false (w.instance.lane == lane) w.verdicts.items [] (ne_eqb w.instance.lane lane e)) in
       let count : length (given_on lane (w ∷ workers)) ≡ length (given_on lane workers) = ap length given in
-      let rest : places lane + length (given_on lane workers) ≤ length (packets_in lanes lane) =
+      let rest : places lane + length (given_on lane workers) ≤ length (packets_on lanes lane) =
       fitting_next s fs lanes places lane (base + 1) workers h.1 (λ k x there. within (suc k) x there)
       (rest_of (list_any (λ m. m == w.instance.lane) (map (λ (w : Worker F). w.instance.lane) workers)) (are_distinct (map (λ (w : Worker F). w.instance.lane) workers)) apart) fits in
       omega arith
@@ -175,7 +177,7 @@ fits_next {F = F} s lanes base era es fs ledger after p apart fits = λ lane.
     let own : are_distinct (map (λ (w : Worker F). w.instance.lane) p.workers) ≡ true =
     subst (λ ns. are_distinct ns ≡ true) (ap (map lane_number) p.actors_are ∙ map_of_map lane_number (λ (w : Worker F). actor_of w) p.workers) apart in
     let count : places_in after lane ≡ places_in ledger lane + length (given_on lane p.workers) = ap length (p.given lane) ∙ length-append (verdicts_at ledger lane) (given_on lane p.workers) in
-    let most : places_in ledger lane + length (given_on lane p.workers) ≤ length (packets_in lanes lane) =
+    let most : places_in ledger lane + length (given_on lane p.workers) ≤ length (packets_on lanes lane) =
     fitting_next s fs lanes (places_in ledger) lane base p.workers p.finished p.within own (fits lane) in
     omega arith
 
@@ -211,18 +213,18 @@ each_at-push P xs x h p k y there = elim (cases_lt k (length xs)) [
 ]
 
 -- one worker more is made
-pub made_more : {F : Type 0} (lanes : List Lane) (begins : ℕ → ℕ → Packet → Start F) (asks : F → Request) (goes : F → Reply → Step F) (base : ℕ) (instances : List InstancePlan) (ledger : List (List Verdict)) (workers after : List (Worker F)) (number : ℕ) (instance : InstancePlan) (packets : List Taken) (at : ℕ) (w : Worker F) → length workers ≡ number → slice_get instances number ≡ Some instance → packets ≡ packets_in lanes instance.lane → at ≡ places_in ledger instance.lane → IsMade (base + number) instance at w → IsWithin packets w → ((s : Setting F) (es : List Entry) → IsRunBy s (base + number) instance.lane packets begins asks goes → part_of (base + number) es ≡ [] → IsSettled s es w) → after ≡ workers ++ w ∷ [] → EachAt (IsMadeAt lanes begins asks goes base instances ledger) workers → EachAt (IsMadeAt lanes begins asks goes base instances ledger) after
+pub made_more : {F : Type 0} (lanes : List Lane) (begins : ℕ → ℕ → Packet → Start F) (asks : F → Request) (goes : F → Reply → Step F) (base : ℕ) (instances : List InstancePlan) (ledger : List (List Verdict)) (workers after : List (Worker F)) (number : ℕ) (instance : InstancePlan) (packets : List Taken) (at : ℕ) (w : Worker F) → length workers ≡ number → slice_get instances number ≡ Some instance → packets ≡ packets_on lanes instance.lane → at ≡ places_in ledger instance.lane → IsMade (base + number) instance at w → IsWithin packets w → ((s : Setting F) (es : List Entry) → IsRunBy s (base + number) instance.lane packets begins asks goes → part_of (base + number) es ≡ [] → IsSettled s es w) → after ≡ workers ++ w ∷ [] → EachAt (IsMadeAt lanes begins asks goes base instances ledger) workers → EachAt (IsMadeAt lanes begins asks goes base instances ledger) after
 made_more {F = F} lanes begins asks goes base instances ledger workers after number instance packets at w count there its place made within settled more each =
     let own : w.instance ≡ instance = made.instance_is in
-    let lane : packets ≡ packets_in lanes w.instance.lane = its ∙ ap (λ (i : InstancePlan). packets_in lanes i.lane) (sym own) in
+    let lane : packets ≡ packets_on lanes w.instance.lane = its ∙ ap (λ (i : InstancePlan). packets_on lanes i.lane) (sym own) in
     let new : IsMadeAt lanes begins asks goes base instances ledger number w = record {
       instance = there ∙ ap Some (sym own);
       incarnation = made.incarnation_is;
       at = made.at_is ∙ (place ∙ ap (λ (i : InstancePlan). places_in ledger i.lane) (sym own));
       within = subst (λ l. IsWithin l w) lane within;
       settled = λ s es by none.
-          let by0 : IsRunBy s (base + number) w.instance.lane (packets_in lanes w.instance.lane) begins asks goes =
-          subst (λ i. IsRunBy s i w.instance.lane (packets_in lanes w.instance.lane) begins asks goes) made.incarnation_is by in
+          let by0 : IsRunBy s (base + number) w.instance.lane (packets_on lanes w.instance.lane) begins asks goes =
+          subst (λ i. IsRunBy s i w.instance.lane (packets_on lanes w.instance.lane) begins asks goes) made.incarnation_is by in
           let by1 : IsRunBy s (base + number) w.instance.lane packets begins asks goes = subst (λ l. IsRunBy s (base + number) w.instance.lane l begins asks goes) (sym lane) by0 in
           settled s es (subst (λ (i : InstancePlan). IsRunBy s (base + number) i.lane packets begins asks goes) own by1)
           (ap (λ i. part_of i es) (sym made.incarnation_is) ∙ none);

@@ -15,10 +15,9 @@ use Rattle.slnf_flight.specs.Scheduled.{Makes, IsScheduled, in_order}
 use Rattle.slnf_flight.specs.Verdicts.{verdict_of, verdict_among, verdicts_of, verdicts_from, is_left, left_of, left_in}
 use Rattle.slnf_flight.proofs.Laws.{journal_is_accesses}
 use Rattle.slnf_orch.specs.Work.{EachFrom}
-use Rattle.slnf_orch.specs.Epochs.{packets_in}
 use Rattle.slnf_orch.specs.Ledger.{verdicts_at, places_in, IsFitting, filled, filled_from}
 use Rattle.slnf_orch.specs.Passing.{IsUnderWay}
-use Rattle.slnf_orch.specs.Plans.{packet_count, AreFew}
+use Rattle.slnf_flight.specs.Lanes.{packets_on, packet_count}
 use Rattle.slnf_orch.proofs.AtWork.{slice_get-one, slice_get-two}
 
 -- the accesses that a schedule makes are its journal
@@ -82,8 +81,8 @@ filled_all s es ledger lane (there ∷ lanes) fits given rest =
 fits_at : (ledger : List (List Verdict)) (lanes : List Lane) (k : ℕ) (there : Lane) → IsFitting lanes ledger → slice_get lanes k ≡ Some there → places_in ledger (0 + k) ≤ length there.packets
 fits_at ledger lanes k there fits at =
     let q : 0 + k ≡ k = omega arith in
-    let same : packets_in lanes k ≡ there.packets = ap (λ (o : Option Lane). elim o [ None ↦ [] | Some l ↦ l.packets ]) at in
-    let most : places_in ledger k ≤ length (packets_in lanes k) = fits k in
+    let same : packets_on lanes k ≡ there.packets = ap (λ (o : Option Lane). elim o [ None ↦ [] | Some l ↦ l.packets ]) at in
+    let most : places_in ledger k ≤ length (packets_on lanes k) = fits k in
     subst (λ l. places_in ledger l ≤ length there.packets) (sym q) (subst (λ (l : List _). places_in ledger k ≤ length l) same most)
 
 -- the ledger has the verdicts of all packets, and those that it hasn't are left
@@ -124,15 +123,3 @@ pub left_few : (ledger : List (List Verdict)) (lanes : List Lane) → IsFitting 
 left_few ledger lanes fits few =
     let most : left_in (filled_from ledger 0 lanes) ≤ packet_count lanes = left_filled ledger 0 lanes (λ k there at. fits_at ledger lanes k there fits at) in
     omega arith
-
--- no lane has more packets than all have
-packets_most : (lanes : List Lane) (lane : ℕ) → length (packets_in lanes lane) ≤ packet_count lanes
-packets_most [] lane = omega arith
-packets_most (there ∷ lanes) zero = omega arith
-packets_most (there ∷ lanes) (suc lane) =
-    let rest : length (packets_in lanes lane) ≤ packet_count lanes = packets_most lanes lane in
-    let same : length (packets_in (there ∷ lanes) (suc lane)) ≡ length (packets_in lanes lane) = refl in
-    omega arith
-
-pub few_each : (lanes : List Lane) → packet_count lanes ≤ 1048576 → AreFew lanes
-few_each lanes few = λ lane. let most : length (packets_in lanes lane) ≤ packet_count lanes = packets_most lanes lane in omega arith

@@ -1,43 +1,20 @@
 -- What a worker that wants nothing more has: the verdicts of the packets that it took.
-use Rattle.std.proofs.Common.{◌≡◌, inl, inr, ℕ, suc, zero, ◌+◌, false, nat_le, Option, Some, None, List, [], ◌∷◌, length, slice_index, refl, sym, ap, ◌∙◌, subst, arith}
-use Rattle.std.specs.Prelude.{filter}
+use Rattle.std.proofs.Common.{◌≡◌, inl, inr, ℕ, ◌+◌, false, Option, Some, None, List, length, slice_index, refl, sym, ap, ◌∙◌, subst, arith}
 use Rattle.std.specs.List.{range_with_len}
-use Rattle.std.proofs.lemmas.Bool.{cases_lt, cond-true, cond-false}
+use Rattle.std.proofs.lemmas.Bool.{cond-true, cond-false}
 use Rattle.slnf_access.specs.declared.requests.Entry.{Entry}
 use Rattle.slnf_access.specs.Machines.{stand_after}
 use Rattle.slnf_flight.specs.declared.lanes.Taken.{Taken}
 use Rattle.slnf_flight.specs.Setting.{Setting}
-use Rattle.slnf_flight.specs.Parts.{part_of, of_item, stand_of, Offer, batch_of, last_of, offers_until, is_stopped, taken_of, offers_of, Post}
+use Rattle.slnf_flight.specs.Parts.{part_of, of_item, stand_of, Offer, one_by_one, last_of, offers_until, is_stopped, taken_of, offers_of, Post}
 use Rattle.slnf_flight.specs.Scheduled.{wanted}
 use Rattle.slnf_flight.specs.Verdicts.{verdict_at, verdict_by, counted}
-use Rattle.slnf_flight.proofs.Laws.{count_of, one_by_one, offers_of-one}
+use Rattle.slnf_flight.proofs.Laws.{count_of, offers_of-one, offers_until_is}
 use Rattle.slnf_orch.specs.declared.workers.Worker.{Worker}
 use Rattle.slnf_orch.specs.Work.{packet_of, actor_of, Works, IsSettled, IsWithin}
 use Rattle.slnf_orch.specs.Passing.{IsFinished}
 use Rattle.slnf_orch.proofs.Steps.{each_from-same, running, end_is, wants_flight}
-use Rattle.slnf_orch.proofs.Stopping.{none_until, le_true}
 use Rattle.slnf_orch.proofs.Posted.{verdict_by-same}
-
--- the offers up to a batch are the first ones
-until_is : (number a n batch : ℕ) → filter (λ (offer : Offer). nat_le offer.batch batch) (one_by_one number (range_with_len a n)) ≡ one_by_one number (range_with_len a (length (filter (λ (offer : Offer). nat_le offer.batch batch) (one_by_one number (range_with_len a n)))))
-until_is number a zero batch = refl
-until_is number a (suc n) batch =
-    let rest : List Offer = filter (λ (offer : Offer). nat_le offer.batch batch) (one_by_one (number + 1) (range_with_len (a + 1) n)) in
-    let first : Offer = record { item = a; batch = number } in
-    let all : List Offer = filter (λ (offer : Offer). nat_le offer.batch batch) (one_by_one number (range_with_len a (suc n))) in
-    elim (cases_lt batch number) [
-      | inl l ↦
-          let none : all ≡ [] = none_until number a (suc n) batch l in
-          none ∙ ap (λ (l : List Offer). one_by_one number (range_with_len a (length l))) (sym none)
-      | inr l ↦
-          let here : all ≡ first ∷ rest = cond-true (nat_le number batch) (first ∷ rest) rest (le_true number batch l) in
-          here ∙ (ap (λ l. first ∷ l) (until_is (number + 1) (a + 1) n batch)
-          ∙ ap (λ (l : List Offer). one_by_one number (range_with_len a (length l))) (sym here))
-    ]
-
-offers_until_is : (o : Option Entry) (a n : ℕ) → offers_until o (one_by_one 0 (range_with_len a n)) ≡ one_by_one 0 (range_with_len a (length (offers_until o (one_by_one 0 (range_with_len a n)))))
-offers_until_is None a n = refl
-offers_until_is (Some e) a n = until_is 0 a n (batch_of e.item (one_by_one 0 (range_with_len a n)))
 
 -- the verdict of a packet of an actor that isn't stopped
 running_verdict : {F : Type 0} (s : Setting F) (es : List Entry) (w : Worker F) (post : Post) (m : ℕ) → is_stopped (actor_of w) (part_of w.incarnation es) ≡ false → post.actor ≡ actor_of w → verdict_by s es w.incarnation post m ≡ verdict_at (stand_of s w.incarnation m es)

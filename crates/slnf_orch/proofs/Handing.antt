@@ -1,58 +1,15 @@
 -- The ledger, as verdicts are added to it.
-use Rattle.std.proofs.Common.{◌≡◌, inl, inr, ℕ, suc, zero, ◌+◌, ◌-◌, ◌<◌, ◌≤◌, ◌==◌, if◌then◌else◌, List, [], ◌∷◌, ◌++◌, drop, get_or, set, length, refl, sym, ap, ◌∙◌, arith, eq-eqb, ne_eqb, append-nil}
-use Rattle.std.specs.Prelude.{Vec, replicate}
-use Rattle.std.specs.declared.alloc.Global.{Global}
+use Rattle.std.proofs.Common.{◌≡◌, ℕ, suc, ◌+◌, ◌-◌, ◌<◌, ◌≤◌, ◌==◌, if◌then◌else◌, List, [], ◌∷◌, ◌++◌, drop, get_or, length, sym, ap, ◌∙◌, arith, ne_eqb, append-nil}
+use Rattle.std.specs.Prelude.{replicate}
 use Rattle.std.proofs.Math.Seq.{drop-cons}
 use Rattle.std.proofs.Math.ListN.{drop_of_length-le}
-use Rattle.std.proofs.lemmas.Bool.{cases_eq, cond-true, cond-false}
+use Rattle.std.proofs.lemmas.Bool.{cond-false}
 use Rattle.std.proofs.lemmas.List.{append_assoc, length_push}
 use Rattle.slnf_base.specs.declared.packets.Verdict.{Verdict}
 use Rattle.slnf_base.specs.declared.packets.Verdict.TheVariants.{Left}
 use Rattle.slnf_flight.specs.declared.lanes.Lane.{Lane}
 use Rattle.slnf_orch.specs.declared.workers.Worker.{Worker}
-use Rattle.slnf_orch.specs.Ledger.{verdicts_at, lists, given_by, given_on, filled, filled_from}
-
--- one lane more without a verdict
-pub none_more : (ledger : List (Vec Verdict Global)) (v : Vec Verdict Global) (lane : ℕ) → v.items ≡ [] → ((lane : ℕ) → verdicts_at (lists ledger) lane ≡ []) → verdicts_at (lists (ledger ++ v ∷ [])) lane ≡ []
-none_more [] v zero h none = h
-none_more [] v (suc lane) h none = refl
-none_more (x ∷ ledger) v zero h none = none 0
-none_more (x ∷ ledger) v (suc lane) h none = none_more ledger v lane h (λ l. none (suc l))
-
--- one vector of the ledger is another now
-pub at_same : (ledger : List (Vec Verdict Global)) (k : ℕ) (v : Vec Verdict Global) → k < length ledger → verdicts_at (lists (set ledger k v)) k ≡ v.items
-at_same [] k v l = absurd (omega arith)
-at_same (x ∷ ledger) zero v l = refl
-at_same (x ∷ ledger) (suc k) v l = at_same ledger k v (omega arith)
-
-pub at_other : (ledger : List (Vec Verdict Global)) (k other : ℕ) (v : Vec Verdict Global) → (k ≡ other → ⊥) → verdicts_at (lists (set ledger k v)) other ≡ verdicts_at (lists ledger) other
-at_other [] k other v e = refl
-at_other (x ∷ ledger) zero zero v e = absurd (e refl)
-at_other (x ∷ ledger) zero (suc other) v e = refl
-at_other (x ∷ ledger) (suc k) zero v e = refl
-at_other (x ∷ ledger) (suc k) (suc other) v e = at_other ledger k other v (λ q. e (ap (λ n. suc n) q))
-
-pub at_there : (ledger : List (Vec Verdict Global)) (k : ℕ) (d : Vec Verdict Global) → k < length ledger → verdicts_at (lists ledger) k ≡ (get_or ledger k d).items
-at_there [] k d l = absurd (omega arith)
-at_there (x ∷ ledger) zero d l = refl
-at_there (x ∷ ledger) (suc k) d l = at_there ledger k d (omega arith)
-
--- verdicts are added to one lane
-pub added : (ledger : List (Vec Verdict Global)) (lane other : ℕ) (old new : Vec Verdict Global) (verdicts : List Verdict) → lane < length ledger → old ≡ get_or ledger lane old → new.items ≡ old.items ++ verdicts → verdicts_at (lists (set ledger lane new)) other ≡ verdicts_at (lists ledger) other ++ (if lane == other then verdicts else [])
-added ledger lane other old new verdicts l at more = elim (cases_eq lane other) [
-  | inl e ↦
-      let there : verdicts_at (lists ledger) lane ≡ old.items = at_there ledger lane old l ∙ ap (λ (v : Vec Verdict Global). v.items) (sym at) in
-      ap (verdicts_at (lists (set ledger lane new))) (sym e)
-      ∙ (at_same ledger lane new l
-      ∙ (more
-      ∙ (ap (λ l. l ++ verdicts) (sym there)
-      ∙ (ap (λ n. verdicts_at (lists ledger) n ++ verdicts) e
-      ∙ ap (λ l. verdicts_at (lists ledger) other ++ l) (sym (cond-true (lane == other) verdicts [] (eq-eqb lane other e)))))))
-  | inr e ↦
-      at_other ledger lane other new e
-      ∙ (sym (append-nil (verdicts_at (lists ledger) other))
-      ∙ ap (λ l. verdicts_at (lists ledger) other ++ l) (sym (cond-false (lane == other) verdicts [] (ne_eqb lane other e))))
-]
+use Rattle.slnf_orch.specs.Ledger.{verdicts_at, given_by, given_on, filled, filled_from}
 
 -- and none to one that isn't there
 pub not_added : (ledger : List (List Verdict)) (lane other : ℕ) (verdicts : List Verdict) → (lane ≡ other → ⊥) → verdicts_at ledger other ≡ verdicts_at ledger other ++ (if lane == other then verdicts else [])

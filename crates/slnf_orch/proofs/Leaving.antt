@@ -8,37 +8,13 @@ use Rattle.slnf_base.specs.declared.packets.Verdict.{Verdict}
 use Rattle.slnf_access.specs.declared.requests.Entry.{Entry}
 use Rattle.slnf_plan.specs.Ranges.{are_distinct}
 use Rattle.slnf_flight.specs.Setting.{Actor, Setting}
-use Rattle.slnf_flight.specs.Parts.{part_of, Offer, taken_of, taken_on, offers_of, at_lane, Post}
+use Rattle.slnf_flight.specs.Parts.{part_of, Offer, one_by_one, taken_of, taken_on, offers_of, at_lane, Post}
 use Rattle.slnf_flight.specs.Verdicts.{verdict_by, verdict_among, takes}
-use Rattle.slnf_flight.proofs.Laws.{one_by_one}
+use Rattle.slnf_flight.proofs.Laws.{has_item, has_no_item, length_ones}
 use Rattle.slnf_orch.specs.declared.workers.Worker.{Worker}
 use Rattle.slnf_orch.specs.Work.{EachFrom, actor_of}
 use Rattle.slnf_orch.specs.Ledger.{given_by, given_on}
 use Rattle.slnf_orch.specs.Passing.{IsFinishedAt}
-
-either_true : (b : Bool) → (b || true) ≡ true
-either_true true = refl
-either_true false = refl
-
--- the offers of these items have an item that is one of them, and none that isn't
-has_item : (number a n item : ℕ) → a ≤ item → item < a + n → list_any (λ (offer : Offer). offer.item == item) (one_by_one number (range_with_len a n)) ≡ true
-has_item number a zero item l u = absurd (omega arith)
-has_item number a (suc n) item l u = elim (cases_eq a item) [
-  | inl e ↦ ap (λ b. b || list_any (λ (offer : Offer). offer.item == item) (one_by_one (number + 1) (range_with_len (a + 1) n))) (eq-eqb a item e)
-  | inr e ↦
-      ap (λ b. (a == item) || b) (has_item (number + 1) (a + 1) n item (omega arith) (omega arith))
-      ∙ either_true (a == item)
-]
-
-has_no_item : (number a n item : ℕ) → a + n ≤ item → list_any (λ (offer : Offer). offer.item == item) (one_by_one number (range_with_len a n)) ≡ false
-has_no_item number a zero item l = refl
-has_no_item number a (suc n) item l =
-    ap (λ b. b || list_any (λ (offer : Offer). offer.item == item) (one_by_one (number + 1) (range_with_len (a + 1) n))) (ne_eqb a item (λ e. omega arith))
-    ∙ has_no_item (number + 1) (a + 1) n item (omega arith)
-
-length_ones : (number a n : ℕ) → length (one_by_one number (range_with_len a n)) ≡ n
-length_ones number a zero = refl
-length_ones number a (suc n) = ap (λ k. suc k) (length_ones (number + 1) (a + 1) n)
 
 -- the post of an actor of the epoch with this number, where lanes have come so far
 abbrev pub post_at : ℕ → (ℕ → ℕ) → Actor → Post

@@ -1,5 +1,4 @@
 pub mod Steps
-pub mod Stopping
 pub mod Turning
 pub mod Posted
 pub mod Rounds

@@ -15,13 +15,14 @@ use Rattle.slnf_plan.specs.declared.plan.InstancePlan.{InstancePlan}
 use Rattle.slnf_flight.specs.declared.lanes.Lane.{Lane}
 use Rattle.slnf_flight.specs.Setting.{Actor, Era, Setting}
 use Rattle.slnf_flight.specs.Parts.{part_of, of_item, stand_of, at_lane, is_stopped, taken_of, offers_of, Post}
+use Rattle.slnf_flight.specs.Lanes.{packets_on}
 use Rattle.slnf_flight.specs.PlanSetting.{instance_actor}
 use Rattle.slnf_flight.specs.Scheduled.{wanted, with_access, entry_after, turn_of}
 use Rattle.slnf_flight.specs.Verdicts.{verdict_at, verdict_by, counted}
 use Rattle.slnf_flight.proofs.Laws.{part_of-append, part_of-other, stand_of-same}
 use Rattle.slnf_orch.specs.declared.workers.Worker.{Worker}
 use Rattle.slnf_orch.specs.Work.{IsRunBy, IsLeftOf, IsSettled, Works, WasStopped, IsTurn, IsSameJob, actor_of, packet_of}
-use Rattle.slnf_orch.specs.Epochs.{EachAt, IsPosted, AreAtWork, IsTurnAt, packets_in}
+use Rattle.slnf_orch.specs.Epochs.{EachAt, IsPosted, AreAtWork, IsTurnAt}
 use Rattle.slnf_orch.proofs.Steps.{each_from-same}
 
 -- a worker stands by its own part alone
@@ -68,8 +69,8 @@ posted_same s lanes begins asks goes base places actors k v w job p = record {
   actor = subst (λ (i : InstancePlan). slice_get actors k ≡ Some (instance_actor i)) job.instance p.actor;
   incarnation = sym job.incarnation ∙ p.incarnation;
   at = sym job.at ∙ subst (λ (i : InstancePlan). v.at ≡ at_lane places (instance_actor i)) job.instance p.at;
-  by = subst (λ (i : InstancePlan). IsRunBy s w.incarnation i.lane (packets_in lanes i.lane) begins asks goes) job.instance
-      (subst (λ i. IsRunBy s i v.instance.lane (packets_in lanes v.instance.lane) begins asks goes) job.incarnation p.by);
+  by = subst (λ (i : InstancePlan). IsRunBy s w.incarnation i.lane (packets_on lanes i.lane) begins asks goes) job.instance
+      (subst (λ i. IsRunBy s i v.instance.lane (packets_on lanes v.instance.lane) begins asks goes) job.incarnation p.by);
 }
 
 slice_get-set_same : {X : Type 0} (xs : List X) (k : ℕ) (y : X) → k < length xs → slice_get (set xs k y) k ≡ Some y

@@ -19,11 +19,10 @@ use Rattle.slnf_flight.specs.Setting.{Setting}
 use Rattle.slnf_flight.specs.Parts.{part_of, of_item, stand_of, is_stopped, offers_of, taken_of, Post}
 use Rattle.slnf_flight.specs.Scheduled.{wanted, with_access, entry_after}
 use Rattle.slnf_flight.specs.Verdicts.{verdict_at, verdict_by, counted}
-use Rattle.slnf_flight.proofs.Laws.{count_of, stand_of-own}
+use Rattle.slnf_flight.proofs.Laws.{count_of, stand_of-own, counted_front, taken_by_stop}
 use Rattle.slnf_orch.specs.declared.workers.Worker.{Worker}
 use Rattle.slnf_orch.specs.Work.{EachFrom, IsRunBy, packet_of, actor_of, is_last, one_less, Works, WasStopped, IsSettled, IsWithin, IsTurn}
 use Rattle.slnf_orch.proofs.Steps.{each_from-push, each_from-same, with_flight, with_verdict, with_verdicts, entry_is, part_more, stop_reached, is_stop, part_longer, end_is, wants_flight, wants_nothing, Accessed, works_go, works_over, none_flies}
-use Rattle.slnf_orch.proofs.Stopping.{counted_front, taken_count}
 
 -- The access that a worker's turn makes: the entry, and the list with it.
 pub record Turning {F : Type 0} (s : Setting F) (es fs : List Entry) (packets : List Taken) (begins : ℕ → ℕ → Packet → Start F) (asks : F → Request) (goes : F → Reply → Step F) (w : Worker F) (flight : F) (e : Entry) (reply : Reply) : Type 0 where
@@ -121,7 +120,7 @@ stopped_here s es w vs e packets flight gone_flight one lanes within h some last
     let l : packet_of w < w.end = within.flies flight some in
     let end : w.end ≡ w.at + count_of s w.instance.lane w.at (actor_of w) = end_is s packets w lanes within in
     let count : length (taken_of (actor_of w) (part_of w.incarnation es ++ e ∷ []) (offers_of s w.incarnation w.at (actor_of w))) ≡ e.item - w.at + 1 =
-    taken_count s w.incarnation w.at w.instance.lane (actor_of w) (part_of w.incarnation es) e one refl
+    taken_by_stop s w.incarnation w.at w.instance.lane (actor_of w) (part_of w.incarnation es) e one refl
     (subst (λ part. is_stopped (actor_of w) part ≡ true) (part_more w.incarnation es e mine) stopped) (omega arith) (omega arith) in
     let q : e.item - w.at + 1 ≡ length vs.items = omega arith in
     record {

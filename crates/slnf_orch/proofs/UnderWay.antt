@@ -8,14 +8,15 @@ use Rattle.slnf_base.specs.declared.packets.Verdict.{Verdict}
 use Rattle.slnf_access.specs.declared.requests.Entry.{Entry}
 use Rattle.slnf_flight.specs.declared.lanes.Lane.{Lane}
 use Rattle.slnf_plan.specs.Ranges.{are_distinct}
-use Rattle.slnf_flight.specs.Setting.{Actor, Era, Setting}
+use Rattle.slnf_flight.specs.Setting.{Actor, Era, Setting, base_of}
 use Rattle.slnf_flight.specs.Parts.{part_of, at_lane, taken_on, places_after, Post, posts_from}
 use Rattle.slnf_flight.specs.Scheduled.{wanted, turn, turn_of, turns, round, NobodyWants, Makes}
 use Rattle.slnf_flight.specs.Verdicts.{verdict_of, verdict_among}
+use Rattle.slnf_flight.proofs.Laws.{base_of-next}
 use Rattle.slnf_orch.specs.declared.workers.Worker.{Worker}
 use Rattle.slnf_orch.specs.Work.{EachFrom, actor_of}
 use Rattle.slnf_orch.specs.Ledger.{verdicts_at, places_in, given_on}
-use Rattle.slnf_orch.specs.Passing.{base_of, lane_number, IsFinishedAt, HasPassed, SameBefore, IsUnderWay}
+use Rattle.slnf_orch.specs.Passing.{lane_number, IsFinishedAt, HasPassed, SameBefore, IsUnderWay}
 use Rattle.slnf_orch.proofs.Steps.{each_from-same}
 use Rattle.slnf_orch.proofs.Posted.{part_of-access}
 use Rattle.slnf_orch.proofs.Finishing.{finished_same}
@@ -35,16 +36,6 @@ turns_outside s base places era [] es own out = refl
 turns_outside s base places era (number ∷ numbers) es own out =
     turn_outside s base places era.actors es number own (slice_get era.actors number) refl out
     ∙ turns_outside s base places era numbers (turn s base places era es number) own out
-
--- the first incarnation of the next epoch
-base_of-next : (eras : List Era) (number : ℕ) (era : Era) → slice_get eras number ≡ Some era → base_of eras (suc number) ≡ base_of eras number + length era.actors
-base_of-next [] number era h = absurd (cc)
-base_of-next (first ∷ eras) zero era h =
-    let e : length first.actors ≡ length era.actors = ap (λ (o : Option Era). elim o [ None ↦ 0 | Some x ↦ length x.actors ]) h in
-    omega arith
-base_of-next (first ∷ eras) (suc number) era h =
-    let e : base_of eras (suc number) ≡ base_of eras number + length era.actors = base_of-next eras number era h in
-    omega arith
 
 drop_at : {X : Type 0} (xs : List X) (k : ℕ) (x : X) → slice_get xs k ≡ Some x → drop k xs ≡ x ∷ drop (suc k) xs
 drop_at [] k x h = absurd (cc)

@@ -1,13 +1,13 @@
 -- The workers of an epoch.
-use Rattle.std.specs.Prelude.{◌≡◌, ℕ, ◌+◌, ◌<◌, Bool, false, Option, Some, None, List, [], length, slice_get}
+use Rattle.std.specs.Prelude.{◌≡◌, ℕ, ◌+◌, ◌<◌, Bool, false, Some, None, List, length, slice_get}
 use Rattle.slnf_base.specs.declared.packets.Packet.{Packet}
 use Rattle.slnf_access.specs.declared.requests.Entry.{Entry}
 use Rattle.slnf_access.specs.declared.requests.Request.{Request}
 use Rattle.slnf_access.specs.declared.requests.Reply.{Reply}
 use Rattle.slnf_access.specs.declared.functions.Start.{Start}
 use Rattle.slnf_access.specs.declared.functions.Step.{Step}
-use Rattle.slnf_flight.specs.declared.lanes.Taken.{Taken}
 use Rattle.slnf_flight.specs.declared.lanes.Lane.{Lane}
+use Rattle.slnf_flight.specs.Lanes.{packets_on}
 use Rattle.slnf_flight.specs.Setting.{Actor, Era, Setting}
 use Rattle.slnf_flight.specs.Parts.{at_lane}
 use Rattle.std.specs.List.{repeat}
@@ -15,29 +15,20 @@ use Rattle.slnf_flight.specs.Scheduled.{turn, turns, wanted, round, NobodyWants}
 use Rattle.slnf_orch.specs.declared.workers.Worker.{Worker}
 use Rattle.slnf_orch.specs.Work.{IsRunBy, IsSettled, IsWithin, actor_of}
 
--- a captured lane's packets
-abbrev pub packets_of : Option Lane → List Taken
-packets_of None = []
-packets_of (Some lane) = lane.packets
-
--- the packets of a lane by its number; a lane without a capture has none
-abbrev pub packets_in : List Lane → ℕ → List Taken
-packets_in lanes lane = packets_of (slice_get lanes lane)
-
 -- each of these has this, by its number
 abbrev pub EachAt : {X : Type 0} → (ℕ → X → Type 0) → List X → Type 0
 EachAt {X} P xs = (k : ℕ) (x : X) → slice_get xs k ≡ Some x → P k x
 
 -- the workers' packets are those of their lanes
 abbrev pub AreWithin : {F : Type 0} → List Lane → List (Worker F) → Type 0
-AreWithin lanes workers = EachAt (λ k w. IsWithin (packets_in lanes w.instance.lane) w) workers
+AreWithin lanes workers = EachAt (λ k w. IsWithin (packets_on lanes w.instance.lane) w) workers
 
 -- The worker is that of the actor with this number of an epoch, whose first incarnation is this, where lanes have come so far.
 pub record IsPosted {F : Type 0} (s : Setting F) (lanes : List Lane) (begins : ℕ → ℕ → Packet → Start F) (asks : F → Request) (goes : F → Reply → Step F) (base : ℕ) (places : ℕ → ℕ) (actors : List Actor) (k : ℕ) (w : Worker F) : Type 0 where
   pub actor : slice_get actors k ≡ Some (actor_of w)
   pub incarnation : w.incarnation ≡ base + k
   pub at : w.at ≡ at_lane places (actor_of w)
-  pub by : IsRunBy s w.incarnation w.instance.lane (packets_in lanes w.instance.lane) begins asks goes
+  pub by : IsRunBy s w.incarnation w.instance.lane (packets_on lanes w.instance.lane) begins asks goes
 
 -- The workers are those of an epoch's actors, and stand so after these entries.
 pub record AreAtWork {F : Type 0} (s : Setting F) (es : List Entry) (lanes : List Lane) (begins : ℕ → ℕ → Packet → Start F) (asks : F → Request) (goes : F → Reply → Step F) (base : ℕ) (places : ℕ → ℕ) (actors : List Actor) (workers : List (Worker F)) : Type 0 where

@@ -1,6 +1,5 @@
 -- The verdicts of each lane's packets so far, from epoch to epoch.
-use Rattle.std.specs.Prelude.{◌≡◌, ℕ, ◌+◌, ◌-◌, ◌≤◌, ◌==◌, if◌then◌else◌, Option, Some, None, List, [], ◌∷◌, ◌++◌, length, map, replicate, slice_get, Vec}
-use Rattle.std.specs.declared.alloc.Global.{Global}
+use Rattle.std.specs.Prelude.{◌≡◌, ℕ, ◌+◌, ◌-◌, ◌≤◌, ◌==◌, if◌then◌else◌, Some, List, [], ◌∷◌, ◌++◌, length, replicate, slice_get}
 use Rattle.slnf_base.specs.declared.packets.Packet.{Packet}
 use Rattle.slnf_base.specs.declared.packets.Verdict.{Verdict}
 use Rattle.slnf_base.specs.declared.packets.Verdict.TheVariants.{Left}
@@ -10,33 +9,26 @@ use Rattle.slnf_access.specs.declared.requests.Reply.{Reply}
 use Rattle.slnf_access.specs.declared.functions.Start.{Start}
 use Rattle.slnf_access.specs.declared.functions.Step.{Step}
 use Rattle.slnf_flight.specs.declared.lanes.Lane.{Lane}
+use Rattle.slnf_flight.specs.Lanes.{packets_on}
 use Rattle.slnf_flight.specs.Setting.{Setting}
+use Rattle.slnf_flight.specs.Tables.{list_at}
 use Rattle.slnf_flight.specs.Parts.{part_of}
 use Rattle.slnf_plan.specs.declared.plan.InstancePlan.{InstancePlan}
 use Rattle.slnf_orch.specs.declared.workers.Worker.{Worker}
 use Rattle.slnf_orch.specs.Work.{IsRunBy, IsSettled, IsWithin}
-use Rattle.slnf_orch.specs.Epochs.{EachAt, packets_in}
-
--- a lane's verdicts, where it has some
-abbrev pub or_none : Option (List Verdict) → List Verdict
-or_none None = []
-or_none (Some verdicts) = verdicts
+use Rattle.slnf_orch.specs.Epochs.{EachAt}
 
 -- the verdicts of a lane's packets so far; a lane without a capture has none
 abbrev pub verdicts_at : List (List Verdict) → ℕ → List Verdict
-verdicts_at ledger lane = or_none (slice_get ledger lane)
+verdicts_at ledger lane = list_at ledger lane
 
 -- how far each lane has come
 abbrev pub places_in : List (List Verdict) → ℕ → ℕ
 places_in ledger lane = length (verdicts_at ledger lane)
 
--- the items of each of these vectors
-abbrev pub lists : List (Vec Verdict Global) → List (List Verdict)
-lists vectors = map (λ v. v.items) vectors
-
 -- no lane has come farther than its packets
 abbrev pub IsFitting : List Lane → List (List Verdict) → Type 0
-IsFitting lanes ledger = (lane : ℕ) → places_in ledger lane ≤ length (packets_in lanes lane)
+IsFitting lanes ledger = (lane : ℕ) → places_in ledger lane ≤ length (packets_on lanes lane)
 
 -- the verdicts that a worker gives to this lane
 abbrev pub given_by : {F : Type 0} → ℕ → Worker F → List Verdict
@@ -62,8 +54,8 @@ pub record IsMadeAt {F : Type 0} (lanes : List Lane) (begins : ℕ → ℕ → P
   pub instance : slice_get instances k ≡ Some w.instance
   pub incarnation : w.incarnation ≡ base + k
   pub at : w.at ≡ places_in ledger w.instance.lane
-  pub within : IsWithin (packets_in lanes w.instance.lane) w
-  pub settled : (s : Setting F) (es : List Entry) → IsRunBy s w.incarnation w.instance.lane (packets_in lanes w.instance.lane) begins asks goes → part_of w.incarnation es ≡ [] → IsSettled s es w
+  pub within : IsWithin (packets_on lanes w.instance.lane) w
+  pub settled : (s : Setting F) (es : List Entry) → IsRunBy s w.incarnation w.instance.lane (packets_on lanes w.instance.lane) begins asks goes → part_of w.incarnation es ≡ [] → IsSettled s es w
 
 -- The workers are made for an epoch's instances.
 pub record AreMade {F : Type 0} (lanes : List Lane) (begins : ℕ → ℕ → Packet → Start F) (asks : F → Request) (goes : F → Reply → Step F) (base : ℕ) (instances : List InstancePlan) (ledger : List (List Verdict)) (workers : List (Worker F)) : Type 0 where

@@ -1,5 +1,5 @@
 -- Epochs that pass: what an epoch's workers leave, and where a run stands between two epochs.
-use Rattle.std.specs.Prelude.{◌≡◌, ℕ, ◌+◌, ◌<◌, ◌≤◌, zero, suc, None, Some, List, [], ◌∷◌, ◌++◌, length, map, drop, slice_get}
+use Rattle.std.specs.Prelude.{◌≡◌, ℕ, ◌+◌, ◌<◌, ◌≤◌, None, Some, List, [], ◌++◌, length, map, drop, slice_get}
 use Rattle.std.specs.List.{range_with_len, repeat}
 use Rattle.slnf_base.specs.declared.packets.Packet.{Packet}
 use Rattle.slnf_base.specs.declared.packets.Verdict.{Verdict}
@@ -9,27 +9,21 @@ use Rattle.slnf_access.specs.declared.requests.Reply.{Reply}
 use Rattle.slnf_access.specs.declared.functions.Start.{Start}
 use Rattle.slnf_access.specs.declared.functions.Step.{Step}
 use Rattle.slnf_flight.specs.declared.lanes.Lane.{Lane}
-use Rattle.slnf_flight.specs.Setting.{Actor, Era, Setting}
-use Rattle.slnf_flight.specs.Parts.{part_of, offers_of, taken_of, Post, posts_from}
+use Rattle.slnf_flight.specs.Lanes.{packets_on}
+use Rattle.slnf_flight.specs.Setting.{Actor, Era, Setting, base_of}
+use Rattle.slnf_flight.specs.Parts.{part_of, one_by_one, offers_of, taken_of, Post, posts_from}
 use Rattle.slnf_flight.specs.Scheduled.{turns, round, NobodyWants, Makes}
 use Rattle.slnf_flight.specs.Verdicts.{verdict_by, verdict_of, verdict_among}
-use Rattle.slnf_flight.proofs.Laws.{one_by_one}
 use Rattle.slnf_plan.specs.declared.plan.InstancePlan.{InstancePlan}
 use Rattle.slnf_orch.specs.declared.workers.Worker.{Worker}
 use Rattle.slnf_orch.specs.Work.{EachFrom, IsRunBy, actor_of}
-use Rattle.slnf_orch.specs.Epochs.{AreWithin, packets_in}
+use Rattle.slnf_orch.specs.Epochs.{AreWithin}
 use Rattle.slnf_orch.specs.Ledger.{verdicts_at, places_in, given_on}
-
--- the first incarnation of the epoch with this number
-abbrev pub base_of : List Era → ℕ → ℕ
-base_of eras zero = 0
-base_of [] (suc number) = 0
-base_of (era ∷ eras) (suc number) = length era.actors + base_of eras number
 
 -- the function runs each instance of an epoch, whose first incarnation is this
 abbrev pub AreRunBy : {F : Type 0} → Setting F → List Lane → (ℕ → ℕ → Packet → Start F) → (F → Request) → (F → Reply → Step F) → ℕ → List InstancePlan → Type 0
 AreRunBy s lanes begins asks goes base instances =
-    (k : ℕ) (i : InstancePlan) → slice_get instances k ≡ Some i → IsRunBy s (base + k) i.lane (packets_in lanes i.lane) begins asks goes
+    (k : ℕ) (i : InstancePlan) → slice_get instances k ≡ Some i → IsRunBy s (base + k) i.lane (packets_on lanes i.lane) begins asks goes
 
 -- The worker has done its work, and has the verdicts of the packets that it took.
 pub record IsFinished {F : Type 0} (s : Setting F) (es : List Entry) (w : Worker F) : Type 0 where

@@ -1,25 +1,15 @@
 ghost use Rattle.std.specs.Prelude.{◌≡◌, ◌+◌, ◌^◌, ◌<◌, ◌≤◌, ℕ, List, length, slice_get, IfOk, OnOk, true, false, IsTrue, nat_lt};
 ghost use Rattle.slnf_flight.specs.Setting.{Setting, Era};
-ghost use Rattle.slnf_orch.specs.Epochs.{packets_in, AreWithin, AreAtWork, IsTurnAt, IsTurned, IsRound, AreDone};
+ghost use Rattle.slnf_orch.specs.Epochs.{AreWithin, AreAtWork, IsTurnAt, IsTurned, IsRound, AreDone};
 ghost use Rattle.std.specs.List.{list_all};
 
 use crate::ledger::{hand_over, place_in};
 use crate::workers::{Worker, make, turn};
 use slnf_access::{Function, ListStore};
 use slnf_base::{NoMemory, Verdict};
-use slnf_flight::{Lane, Taken};
+use slnf_flight::{Lane, packets_on};
 use slnf_plan::{Epoch, InstancePlan};
 use std::alloc::Global;
-
-/// The packets of a lane by its number. A lane without a capture has none.
-pub(crate) fn packets_in(lanes: &[Lane], lane: u32) -> &[Taken]
-    ensures { result.now ≡ packets_in lanes.now lane }
-{
-    match lanes.get(lane as usize) {
-        Some(lane) => lane.packets.as_slice(),
-        None => &[],
-    }
-}
 
 /// Makes the access of the worker with this number, if it wants one, and answers whether it did.
 fn turn_at<F: Function>(
@@ -43,7 +33,7 @@ fn turn_at<F: Function>(
         → IsTurnAt s store.old.entries store.new.entries lanes.now (F.begins function.now) (F.asks function.now) (F.goes function.now) base places era workers.new.items number made) }
 {
     let worker = &mut workers[number];
-    let packets = packets_in(lanes, worker.instance.lane);
+    let packets = packets_on(lanes, worker.instance.lane);
     let made = turn(function, packets, store, worker)?;
     Ok(made)
 }
@@ -124,9 +114,10 @@ fn rounds<F: Function>(
 ghost use Rattle.std.specs.Prelude.{[], ◌++◌, map};
 ghost use Rattle.slnf_flight.specs.Parts.{part_of};
 ghost use Rattle.slnf_flight.specs.PlanSetting.{instance_actor};
-ghost use Rattle.slnf_orch.specs.Ledger.{places_in, lists, IsFitting, AreMade};
+ghost use Rattle.slnf_flight.specs.Tables.{lists};
+ghost use Rattle.slnf_orch.specs.Ledger.{places_in, IsFitting, AreMade};
 ghost use Rattle.slnf_orch.specs.Passing.{AreRunBy, HasPassed};
-ghost use Rattle.slnf_orch.specs.Plans.{AreFew};
+ghost use Rattle.slnf_flight.specs.Lanes.{AreFew, packets_on};
 
 /// Makes a worker for each instance of an epoch whose first incarnation is `base`. Each begins in its lane where the ledger
 /// leaves off.
@@ -146,7 +137,7 @@ fn make_workers<F: Function>(
     let mut workers = Vec::new(alloc);
     for number in 0..instances.len() {
         let instance = instances[number];
-        let packets = packets_in(lanes, instance.lane);
+        let packets = packets_on(lanes, instance.lane);
         let at = place_in(ledger, instance.lane);
         let worker = make(alloc, function, base + number as u64, instance, packets, at)?;
         workers.push(worker)?;

@@ -1,5 +1,6 @@
 ghost use Rattle.std.specs.Prelude.{◌≡◌, ◌+◌, ◌^◌, ◌<◌, ◌≤◌, ◌==◌, ◌++◌, ℕ, [], List, length, map, IfOk, OnOk, if◌then◌else◌};
-ghost use Rattle.slnf_orch.specs.Ledger.{verdicts_at, places_in, lists, IsFitting, given_by, given_on, filled, filled_from};
+ghost use Rattle.slnf_flight.specs.Tables.{lists};
+ghost use Rattle.slnf_orch.specs.Ledger.{verdicts_at, places_in, IsFitting, given_by, given_on, filled, filled_from};
 
 use crate::workers::Worker;
 use slnf_base::{NoMemory, Row, Verdict};

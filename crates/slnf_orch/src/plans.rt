@@ -8,9 +8,10 @@ ghost use Rattle.slnf_flight.specs.Run.{IsRun};
 ghost use Rattle.slnf_flight.specs.Scheduled.{IsScheduled};
 ghost use Rattle.slnf_flight.specs.Verdicts.{verdicts_of, left_of, left_in, is_left};
 ghost use Rattle.slnf_access.specs.Store.{Stored};
-ghost use Rattle.slnf_orch.specs.Ledger.{lists, IsFitting};
+ghost use Rattle.slnf_flight.specs.Tables.{lists};
+ghost use Rattle.slnf_orch.specs.Ledger.{IsFitting};
 ghost use Rattle.slnf_orch.specs.Passing.{IsUnderWay};
-ghost use Rattle.slnf_orch.specs.Plans.{packet_count, AreFew};
+ghost use Rattle.slnf_flight.specs.Lanes.{packet_count, AreFew};
 
 use crate::epochs::run_epoch;
 use crate::ledger::{fill_all, no_verdicts};

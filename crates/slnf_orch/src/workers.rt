@@ -2,7 +2,7 @@ ghost use Rattle.std.specs.Prelude.{◌≡◌, ◌+◌, ◌-◌, ◌^◌, ◌<�
 
 use slnf_access::{Function, ListStore, Start, Step};
 use slnf_base::{NoMemory, Verdict};
-use slnf_flight::Taken;
+use slnf_flight::{Taken, begin, within_quota};
 use slnf_plan::InstancePlan;
 use std::alloc::Global;
 
@@ -18,26 +18,6 @@ pub(crate) struct Worker<T> {
     pub(crate) left: Option<u64>,
     pub(crate) flight: Option<T>,
     pub(crate) verdicts: Vec<Verdict>,
-}
-
-ghost use Rattle.slnf_access.specs.Machines.{stand_of_start};
-ghost use Rattle.slnf_flight.specs.PlanSetting.{begins_with};
-
-/// How a captured packet begins.
-fn begin<F: Function>(
-    function: &F,
-    incarnation: u64,
-    number: usize,
-    taken: &Taken,
-) -> Start<F::Flight>
-    requires incarnation { incarnation < 2 ^ 32 }
-    requires number { number < 2 ^ 32 }
-    ensures { stand_of_start result ≡ begins_with (F.begins function.now incarnation number) (Some taken.now) }
-{
-    match taken {
-        Taken::Seen(packet) => function.start(incarnation, number as u64, packet),
-        Taken::Bad(reason) => Start::Over(*reason),
-    }
 }
 
 ghost use Rattle.slnf_access.specs.declared.requests.Entry.{Entry};
@@ -142,22 +122,6 @@ pub(crate) fn turn<F: Function>(
 ghost use Rattle.slnf_flight.specs.Parts.{part_of, within_quota, is_stopped};
 ghost use Rattle.slnf_orch.specs.Work.{IsMade};
 ghost use Rattle.std.specs.Prelude.{[]};
-
-/// How many of these packets an instance takes at most.
-fn within_quota(quota: Option<u64>, count: usize) -> usize
-    ensures { result ≡ within_quota quota count }
-{
-    match quota {
-        None => count,
-        Some(quota) => {
-            if quota < count as u64 {
-                quota as usize
-            } else {
-                count
-            }
-        }
-    }
-}
 
 /// A worker for the instance, whose packets begin at this one. It is at the first that makes an access.
 pub(crate) fn make<F: Function>(

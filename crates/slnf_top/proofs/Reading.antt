@@ -8,7 +8,7 @@ use Rattle.slnf_shelf.specs.declared.shelf.Call.TheVariants.{Read, Begin, Append
 use Rattle.slnf_shelf.specs.Shelf.{Faults, Moves, Only, Rose, SameFiles}
 use Rattle.slnf_shelf.proofs.Laws.{Moves-still, Moves-then, Moves-wider, Rose-after}
 use Rattle.slnf_flight.specs.declared.lanes.Lane.{Lane}
-use Rattle.slnf_orch.specs.Plans.{packet_count}
+use Rattle.slnf_flight.specs.Lanes.{packet_count}
 use Rattle.slnf_top.specs.declared.statuses.Status.{Status}
 use Rattle.slnf_top.specs.declared.inputs.Given.{Given}
 use Rattle.slnf_top.specs.declared.inputs.Input.{Input}

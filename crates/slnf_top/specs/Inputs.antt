@@ -9,7 +9,7 @@ use Rattle.slnf_plan.specs.Plain.{plain}
 use Rattle.slnf_plan.specs.Reading.{plan_of_bytes}
 use Rattle.slnf_flight.specs.declared.lanes.Lane.{Lane}
 use Rattle.slnf_flight.specs.Captures.{packets_of}
-use Rattle.slnf_orch.specs.Plans.{packet_count}
+use Rattle.slnf_flight.specs.Lanes.{packet_count}
 use Rattle.slnf_top.specs.declared.inputs.Given.{Given}
 use Rattle.slnf_top.specs.declared.inputs.Input.{Input}
 use Rattle.slnf_top.specs.declared.inputs.Inputs.{Inputs}

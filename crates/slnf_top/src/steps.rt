@@ -2,7 +2,7 @@ ghost use Rattle.std.specs.Prelude.{◌≡◌, ◌≤◌, length, true, IfOk, Is
 ghost use Rattle.std.specs.List.{list_all};
 ghost use Rattle.slnf_plan.specs.declared.plan.FunctionPlan.TheVariants.{Balancer};
 ghost use Rattle.slnf_lb.specs.Ranges.{is_pair};
-ghost use Rattle.slnf_orch.specs.Plans.{packet_count};
+ghost use Rattle.slnf_flight.specs.Lanes.{packet_count};
 ghost use Rattle.slnf_top.specs.Inputs.{AreRead};
 ghost use Rattle.slnf_top.specs.Written.{IsOutcome, IsRunOf};
 

@@ -1,7 +1,8 @@
 -- the workers so far are those of the first instances
 use Rattle.std.proofs.Common.{◌≡◌, length}
 use Rattle.slnf_orch.specs.Epochs.{EachAt}
-use Rattle.slnf_orch.specs.Ledger.{lists, IsMadeAt}
+use Rattle.slnf_flight.specs.Tables.{lists}
+use Rattle.slnf_orch.specs.Ledger.{IsMadeAt}
 use Rattle.slnf_orch.proofs.epochs.make_workers.Given as goal
 
 abbrev pub invariant-loop-number : goal.invariant-loop-number

@@ -2,7 +2,8 @@
 use Rattle.std.proofs.Common.{◌≡◌, ◌++◌, length, sym, ap, ◌∙◌, subst, arith}
 use Rattle.std.proofs.lemmas.List.{length-map}
 use Rattle.slnf_orch.specs.Epochs.{IsTurned}
-use Rattle.slnf_orch.specs.Ledger.{lists, places_in, verdicts_at, given_on, AreMade}
+use Rattle.slnf_flight.specs.Tables.{lists}
+use Rattle.slnf_orch.specs.Ledger.{places_in, verdicts_at, given_on, AreMade}
 use Rattle.slnf_orch.proofs.AtWork.{at_work_made, within_made, passed}
 use Rattle.slnf_orch.proofs.epochs.run_epoch.Goals as goal
 

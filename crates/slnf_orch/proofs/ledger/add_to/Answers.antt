@@ -1,6 +1,6 @@
 -- the lane has its verdicts, and these
 use Rattle.std.proofs.Common.{arith}
-use Rattle.slnf_orch.proofs.Handing.{added}
+use Rattle.slnf_flight.proofs.Laws.{added}
 use Rattle.slnf_orch.proofs.ledger.add_to.Goals as goal
 
 pub returns-in_ok-extend_from_slice-clause-added : goal.returns-in_ok-extend_from_slice-clause-added

@@ -4,8 +4,10 @@ use Rattle.std.specs.Prelude.{Vec}
 use Rattle.std.specs.declared.alloc.Global.{Global}
 use Rattle.slnf_base.specs.declared.packets.Verdict.{Verdict}
 use Rattle.slnf_flight.specs.declared.lanes.Lane.{Lane}
-use Rattle.slnf_orch.specs.Ledger.{lists, verdicts_at, filled}
-use Rattle.slnf_orch.proofs.Handing.{at_there, filled_step}
+use Rattle.slnf_flight.specs.Tables.{lists}
+use Rattle.slnf_flight.proofs.Laws.{at_there}
+use Rattle.slnf_orch.specs.Ledger.{verdicts_at, filled}
+use Rattle.slnf_orch.proofs.Handing.{filled_step}
 use Rattle.slnf_orch.proofs.ledger.fill_all.Goals as goal
 
 pub loop-number-preserved : goal.loop-number-preserved

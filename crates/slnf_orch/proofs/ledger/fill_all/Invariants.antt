@@ -1,6 +1,7 @@
 -- the rows so far, and those of the lanes that are left, are all
 use Rattle.std.proofs.Common.{◌≡◌, ◌++◌, drop}
-use Rattle.slnf_orch.specs.Ledger.{lists, filled_from}
+use Rattle.slnf_flight.specs.Tables.{lists}
+use Rattle.slnf_orch.specs.Ledger.{filled_from}
 use Rattle.slnf_orch.proofs.ledger.fill_all.Given as goal
 
 abbrev pub invariant-loop-number : goal.invariant-loop-number

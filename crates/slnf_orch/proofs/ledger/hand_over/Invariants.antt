@@ -1,6 +1,7 @@
 -- what is there, and what the workers that are left give, are all
 use Rattle.std.proofs.Common.{◌≡◌, ◌<◌, ◌++◌, ℕ, drop, length}
-use Rattle.slnf_orch.specs.Ledger.{verdicts_at, lists, given_on}
+use Rattle.slnf_flight.specs.Tables.{lists}
+use Rattle.slnf_orch.specs.Ledger.{verdicts_at, given_on}
 use Rattle.slnf_orch.proofs.ledger.hand_over.Given as goal
 
 abbrev pub invariant-loop-worker : goal.invariant-loop-worker

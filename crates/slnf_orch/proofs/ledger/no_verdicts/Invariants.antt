@@ -1,6 +1,7 @@
 -- no lane so far has a verdict
 use Rattle.std.proofs.Common.{◌≡◌, ◌≤◌, ◌-◌, ℕ, [], length}
-use Rattle.slnf_orch.specs.Ledger.{verdicts_at, lists}
+use Rattle.slnf_flight.specs.Tables.{lists}
+use Rattle.slnf_orch.specs.Ledger.{verdicts_at}
 use Rattle.slnf_orch.proofs.ledger.no_verdicts.Given as goal
 
 abbrev pub invariant-loop-alloc : goal.invariant-loop-alloc

@@ -2,9 +2,10 @@
 use Rattle.std.proofs.Common.{◌≡◌, ◌<◌, Some, length, slice_get, sym, ap, ◌∙◌, subst}
 use Rattle.std.proofs.lemmas.Option.{slice_get-get_or}
 use Rattle.slnf_flight.specs.PlanSetting.{era_of_epoch, lb_setting}
-use Rattle.slnf_orch.specs.Ledger.{lists}
+use Rattle.slnf_flight.proofs.Laws.{of_balancer}
+use Rattle.slnf_flight.specs.Tables.{lists}
 use Rattle.slnf_orch.proofs.AtWork.{fits_next}
-use Rattle.slnf_orch.proofs.PlanRuns.{of_balancer, epoch_apart, epoch_passed, epoch_next}
+use Rattle.slnf_orch.proofs.PlanRuns.{epoch_apart, epoch_passed, epoch_next}
 use Rattle.slnf_orch.proofs.plans.step_epoch.Goals as goal
 
 pub returns-clause-fits : goal.returns-clause-fits

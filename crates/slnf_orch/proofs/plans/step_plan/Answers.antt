@@ -5,9 +5,10 @@ use Rattle.slnf_flight.specs.PlanSetting.{era_of_epoch, lb_setting}
 use Rattle.slnf_flight.specs.Run.{IsRun}
 use Rattle.slnf_flight.specs.Scheduled.{IsScheduled}
 use Rattle.slnf_flight.specs.Verdicts.{verdicts_of, left_in}
-use Rattle.slnf_flight.proofs.Laws.{scheduled_is_run}
-use Rattle.slnf_orch.specs.Ledger.{lists, filled_from}
-use Rattle.slnf_orch.proofs.Closing.{few_each, left_few, scheduled_last, verdicts_last}
+use Rattle.slnf_flight.proofs.Laws.{scheduled_is_run, few_each}
+use Rattle.slnf_flight.specs.Tables.{lists}
+use Rattle.slnf_orch.specs.Ledger.{filled_from}
+use Rattle.slnf_orch.proofs.Closing.{left_few, scheduled_last, verdicts_last}
 use Rattle.slnf_orch.proofs.plans.step_plan.Goals as goal
 
 pub loop-number-preserved : goal.loop-number-preserved

@@ -3,7 +3,8 @@ use Rattle.std.proofs.Common.{◌≡◌, ◌≤◌, ◌<◌, ◌*◌, ◌^◌, l
 use Rattle.slnf_base.specs.declared.plans.Service.{Service}
 use Rattle.slnf_plan.specs.declared.plan.FunctionPlan.TheVariants.{Balancer}
 use Rattle.slnf_flight.specs.PlanSetting.{lb_setting}
-use Rattle.slnf_orch.specs.Ledger.{lists, IsFitting}
+use Rattle.slnf_flight.specs.Tables.{lists}
+use Rattle.slnf_orch.specs.Ledger.{IsFitting}
 use Rattle.slnf_orch.specs.Passing.{IsUnderWay}
 use Rattle.slnf_orch.proofs.plans.step_plan.Given as goal
 

@@ -1,0 +1,10 @@
+-- the packets so far, and those that are left, are all
+use Rattle.std.proofs.Common.{◌≡◌, ◌++◌, ◌-◌, map}
+use Rattle.std.specs.List.{range_with_len}
+use Rattle.slnf_flight.specs.Standings.{standing_at, begun_of}
+use Rattle.slnf_flight.proofs.standings.begin_all.Given as goal
+
+abbrev pub invariant-loop-number : goal.invariant-loop-number
+invariant-loop-number g l =
+    l.standings.items ++ map (λ number. standing_at (begun_of (g.F.Function.begins l.function l.incarnation) l.packets number)) (range_with_len l.number (l.end - l.number))
+    ≡ map (λ number. standing_at (begun_of (g.F.Function.begins l.function l.incarnation) l.packets number)) (range_with_len l.at (l.end - l.at))
