@@ -1,3 +1,4 @@
 pub mod Map
 pub mod Store
 pub mod Machines
+pub mod Order

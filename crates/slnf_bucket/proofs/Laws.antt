@@ -5,7 +5,8 @@ use Rattle.slnf_access.specs.declared.requests.Held.{Held}
 use Rattle.slnf_access.specs.declared.requests.Entry.{Entry}
 use Rattle.slnf_access.specs.Map.{key_of, reply_to, cell_after, cell_of, Cells, empty}
 use Rattle.slnf_access.proofs.Laws.{cell_of-append, legal-append}
-use Rattle.slnf_bucket.specs.Bucket.{Kept, with_entry, last_stamp, RisesFrom, AreOwn, IsHistory, IsKept, IsBucket}
+use Rattle.slnf_access.specs.Order.{IsHistory}
+use Rattle.slnf_bucket.specs.Bucket.{Kept, with_entry, last_stamp, RisesFrom, AreOwn, IsKept, IsBucket}
 
 -- stamps that rise, of entries of one shard, are a history
 pub IsHistory-from_rises : (shard shards stamp : ℕ) (es : List Entry) → RisesFrom stamp es → AreOwn shard shards es → IsHistory shard es

@@ -48,12 +48,6 @@ abbrev pub AreOwn : ℕ → ℕ → List Entry → Type 0
 AreOwn shard shards [] = Unit {0}
 AreOwn shard shards (e ∷ es) = (e.shard ≡ shard) × (key_of e.request % shards ≡ shard) × AreOwn shard shards es
 
--- the stamps rise strictly, and each entry is the shard's
-abbrev pub IsHistory : ℕ → List Entry → Type 0
-IsHistory shard [] = Unit {0}
-IsHistory shard (e ∷ []) = e.shard ≡ shard
-IsHistory shard (e ∷ f ∷ es) = (e.shard ≡ shard) × (e.stamp < f.stamp) × IsHistory shard (f ∷ es)
-
 -- what each bucket keeps is a legal history of its shard, with rising stamps from 1 to 2^62 - 1, up to its clock
 pub record IsKept (kept : Kept) : Type 0 where
   pub inside : kept.shard < kept.shards

@@ -43,7 +43,8 @@ impl Model for Bucket {
 
 impl Bucket {
     ghost use Rattle.slnf_access.specs.Map.{CanReply, IsLegal};
-    ghost use Rattle.slnf_bucket.specs.Bucket.{IsKept, IsHistory, next_entry, with_entry};
+    ghost use Rattle.slnf_access.specs.Order.{IsHistory};
+    ghost use Rattle.slnf_bucket.specs.Bucket.{IsKept, next_entry, with_entry};
 
     /// The bucket before any access.
     pub fn make(alloc: Global, shard: u32, shards: u32) -> Result<Bucket, NoMemory>

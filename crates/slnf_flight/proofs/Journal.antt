@@ -3,7 +3,7 @@ use Rattle.std.proofs.Common.{◌≡◌, inl, inr, ℕ, ◌<◌, false, nat_lt, 
 use Rattle.std.proofs.lemmas.Bool.{cond-false}
 use Rattle.std.proofs.lemmas.Bool.Decides.{nat_tests}
 use Rattle.slnf_access.specs.declared.requests.Entry.{Entry}
-use Rattle.slnf_flight.specs.Run.{Precedes, InOrder}
+use Rattle.slnf_access.specs.Order.{Precedes, InOrder}
 use Rattle.slnf_flight.specs.Scheduled.{below_or, stands_before, put_in, in_order}
 use Rattle.slnf_flight.proofs.Wishes.{below_or-above}
 use Rattle.std.proofs.Common.{arith}

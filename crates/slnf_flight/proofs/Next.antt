@@ -9,7 +9,8 @@ use Rattle.slnf_access.specs.Machines.{IsAsked, IsPath}
 use Rattle.slnf_access.proofs.Laws.{cell_of-append}
 use Rattle.slnf_flight.specs.Setting.{Setting, era_of}
 use Rattle.slnf_flight.specs.Parts.{part_of, of_item, stand_of, batch_of, Post, offers_at}
-use Rattle.slnf_flight.specs.Run.{InOrder, Each, IsInShard, IsBelowStop, IsOffered, EarlierEnded}
+use Rattle.slnf_access.specs.Order.{InOrder}
+use Rattle.slnf_flight.specs.Run.{Each, IsInShard, IsBelowStop, IsOffered, EarlierEnded}
 use Rattle.slnf_flight.proofs.Growth.{Grown, grown_at}
 use Rattle.slnf_flight.proofs.Entries.{part_of-append, part_of-own, part_of-other, of_item-own, of_item-other, stand_of-own, stand_of-other, stand_of-other_item}
 use Rattle.slnf_flight.proofs.Stops.{IsWithinStop, within_stop-more}

@@ -2,7 +2,8 @@
 use Rattle.std.proofs.Common.{◌≡◌, ℕ, ◌%◌, ◌<◌, List, [], ◌∷◌, ◌++◌, arith, filter, cond, Bool, true, false, ap, ◌∙◌, sym, refl}
 use Rattle.slnf_access.specs.declared.requests.Entry.{Entry}
 use Rattle.slnf_access.specs.Map.{key_of}
-use Rattle.slnf_flight.specs.Run.{Precedes, InOrder, Each, IsInShard}
+use Rattle.slnf_access.specs.Order.{Precedes, InOrder}
+use Rattle.slnf_flight.specs.Run.{Each, IsInShard}
 
 -- what each entry has, one among them has
 pub Each-at : (P : Entry → Type 0) (xs ys : List Entry) (e : Entry) → Each P (xs ++ e ∷ ys) → P e

@@ -6,7 +6,8 @@ use Rattle.slnf_access.specs.Map.{IsLegal}
 use Rattle.slnf_access.specs.Machines.{IsPath}
 use Rattle.slnf_flight.specs.Setting.{Era, Setting, era_of}
 use Rattle.slnf_flight.specs.Parts.{part_of, of_item, is_stopped, batch_of, places_after, Post, posts_from, posts_of, offers_at}
-use Rattle.slnf_flight.specs.Run.{InOrder, Each, IsInShard, IsBelowStop, IsDone, IsOffered, EarlierEnded, IsRun}
+use Rattle.slnf_access.specs.Order.{InOrder}
+use Rattle.slnf_flight.specs.Run.{Each, IsInShard, IsBelowStop, IsDone, IsOffered, EarlierEnded, IsRun}
 use Rattle.slnf_flight.proofs.Growth.{Grown}
 use Rattle.slnf_flight.proofs.Entries.{all_ended-same, earlier_ended-same, part_of-part_of, IsSplit, split_of_part, each_before, part_of-own, part_of-other, part_of-append}
 use Rattle.slnf_flight.proofs.Lists.{EveryAt, every_at}

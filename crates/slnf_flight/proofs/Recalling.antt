@@ -10,7 +10,8 @@ use Rattle.slnf_access.specs.declared.requests.Reply.TheVariants.{Done, Found}
 use Rattle.slnf_access.specs.Map.{key_of, conditional_reply, reply_to, cell_after, cell_step, cell_of, empty, map_after, IsLegal}
 use Rattle.slnf_access.proofs.Laws.{cell_of-append, legal-back, legal-front}
 use Rattle.slnf_flight.specs.Parts.{part_of}
-use Rattle.slnf_flight.specs.Run.{InOrder, Each, IsInShard}
+use Rattle.slnf_access.specs.Order.{InOrder}
+use Rattle.slnf_flight.specs.Run.{Each, IsInShard}
 use Rattle.slnf_flight.specs.Keeps.{IsRecalled, Recalled}
 use Rattle.slnf_flight.proofs.Orders.{Each-splits, Each-filter, stamps_rise, Each-front, InOrder-front}
 use Rattle.slnf_flight.proofs.Deciding.{own_of}

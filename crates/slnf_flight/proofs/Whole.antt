@@ -29,6 +29,7 @@ use Rattle.slnf_flight.specs.Shares.{post_of, has_stopped, has_taken, lb_begun, 
 use Rattle.slnf_flight.specs.Standings.{IsFollowed}
 use Rattle.slnf_flight.specs.Verdicts.{counted, verdict_at, verdict_by, verdict_among, verdicts_of, takes}
 use Rattle.slnf_flight.proofs.Lists.{EveryAt, every_at}
+use Rattle.slnf_flight.proofs.Orders.{Each-filter}
 use Rattle.slnf_flight.proofs.Posting.{IsShareOf, shares_are, posts_are}
 use Rattle.slnf_flight.proofs.Rows.{rows_same, verdicts_from-rows}
 use Rattle.slnf_flight.proofs.Stopping.{has_item, has_no_item, has_no_item_before}
@@ -53,14 +54,6 @@ can_each cells (e ∷ es) h = (
   can_each (map_after cells (e ∷ [])) es h.1,
 )
 
-kept_each : (P : Entry → Type 0) (b : Bool) (e : Entry) (es : List Entry) → P e → Each P es → Each P (if b then e ∷ es else es)
-kept_each P true e es h k = (h, k)
-kept_each P false e es h k = k
-
-each_filter : (P : Entry → Type 0) (test : Entry → Bool) (es : List Entry) → Each P es → Each P (filter test es)
-each_filter P test [] h = tt
-each_filter P test (e ∷ es) h = kept_each P (test e) e (filter test es) h.0 (each_filter P test es h.1)
-
 each_get : (P : Entry → Type 0) (es : List Entry) (k : ℕ) (e : Entry) → Each P es → slice_get es k ≡ Some e → P e
 each_get P [] k e h at = absurd (cc)
 each_get P (f ∷ es) zero e h at = subst P (same_Some f e at) h.0
@@ -72,7 +65,7 @@ followed_run plan service lanes j part i share run h own =
     subst (IsFollowed (lb_machine service) (lb_begun plan service lanes share.epoch share.instance.lane i)) (sym own)
     (record {
       paths = λ item. subst (λ stand. IsPath (lb_machine service) stand (of_item item (part_of i j))) (h.begins item) (run.paths i item);
-      replies = λ k e at. each_get (λ e. CanReply e.request e.reply) (part_of i j) k e (each_filter (λ e. CanReply e.request e.reply) (λ e. e.incarnation == i) j (can_each empty j run.legal)) at;
+      replies = λ k e at. each_get (λ e. CanReply e.request e.reply) (part_of i j) k e (Each-filter (λ e. CanReply e.request e.reply) (λ e. e.incarnation == i) j (can_each empty j run.legal)) at;
     })
 
 -- the packets that are among those from a place on

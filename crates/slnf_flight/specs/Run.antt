@@ -2,19 +2,10 @@
 use Rattle.std.specs.Prelude.{◌≡◌, ◌⊎◌, ℕ, ◌%◌, ◌^◌, ◌<◌, ◌≤◌, IsTrue, Some, None, List, [], ◌∷◌, ◌++◌, length, slice_get}
 use Rattle.slnf_access.specs.declared.requests.Entry.{Entry}
 use Rattle.slnf_access.specs.Map.{key_of, IsLegal}
+use Rattle.slnf_access.specs.Order.{InOrder}
 use Rattle.slnf_access.specs.Machines.{IsPath, HasEnded}
 use Rattle.slnf_flight.specs.Setting.{Actor, Setting, era_of}
 use Rattle.slnf_flight.specs.Parts.{part_of, of_item, stand_of, Offer, batch_of, is_stopped, Post, posts_of, offers_at}
-
--- the one entry's event comes before the other's, by (stamp, shard)
-abbrev pub Precedes : Entry → Entry → Type 0
-Precedes e f = (e.stamp < f.stamp) ⊎ ((e.stamp ≡ f.stamp) × (e.shard < f.shard))
-
--- the list is in strict order of (stamp, shard)
-abbrev pub InOrder : List Entry → Type 0
-InOrder [] = Unit {0}
-InOrder (e ∷ []) = Unit {0}
-InOrder (e ∷ f ∷ es) = Precedes e f × InOrder (f ∷ es)
 
 -- each entry has this
 abbrev pub Each : (Entry → Type 0) → List Entry → Type 0

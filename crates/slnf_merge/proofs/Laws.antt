@@ -8,7 +8,8 @@ use Rattle.std.proofs.lemmas.List.Sorted.{IsPermutation-sym}
 use Rattle.slnf_access.specs.declared.requests.Entry.{Entry}
 use Rattle.slnf_access.specs.declared.requests.Held.{Held}
 use Rattle.slnf_access.specs.Map.{key_of, reply_to, cell_step, Cells, empty, map_after, IsLegalFrom, IsLegal}
-use Rattle.slnf_merge.specs.Merge.{InOrder, AreHistories, all_of, shard_part, InShards, EachLegal, MergesLegally}
+use Rattle.slnf_access.specs.Order.{InOrder}
+use Rattle.slnf_merge.specs.Merge.{AreHistories, all_of, shard_part, InShards, EachLegal, MergesLegally}
 use Rattle.slnf_merge.proofs.Orders.{IsIn, in_permuted, Strong, strong_from_order, strong_filtered, same_members, history_in, history_order, AllIn}
 
 -- two lists in strict order with the same entries are one

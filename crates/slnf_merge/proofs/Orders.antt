@@ -11,7 +11,8 @@ use Rattle.std.proofs.lemmas.Cmp.{then_total, on_total, nat_cmp_total}
 use Rattle.std.proofs.lemmas.List.Sorted.{sorted_far, ranks_by, Contains-permutation}
 use Rattle.std.proofs.lemmas.Map.Keys.{IsDistinct-cons, IsDistinct-IsPermutation, apart_from_distinct}
 use Rattle.slnf_access.specs.declared.requests.Entry.{Entry}
-use Rattle.slnf_merge.specs.Merge.{Precedes, InOrder, IsHistory, AreHistories, all_of}
+use Rattle.slnf_access.specs.Order.{Precedes, InOrder, IsHistory}
+use Rattle.slnf_merge.specs.Merge.{AreHistories, all_of}
 
 -- the entry is one of these
 abbrev pub IsIn : Entry → List Entry → Type 0

@@ -1,5 +1,6 @@
 ghost use Rattle.std.specs.Prelude.{◌≡◌, IfOk, IsPermutation, map};
-ghost use Rattle.slnf_merge.specs.Merge.{all_of, AreHistories, InOrder, MergesLegally};
+ghost use Rattle.slnf_access.specs.Order.{InOrder};
+ghost use Rattle.slnf_merge.specs.Merge.{all_of, AreHistories, MergesLegally};
 
 use slnf_access::Entry;
 use slnf_base::NoMemory;

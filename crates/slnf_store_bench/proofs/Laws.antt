@@ -2,9 +2,10 @@
 use Rattle.std.proofs.Common.{◌≡◌, ℕ, zero, suc, ◌+◌, ◌<◌, List, [], ◌∷◌, ◌++◌, length, get_or, set, length-set, sym, ◌∙◌, subst, arith}
 use Rattle.slnf_access.specs.declared.requests.Entry.{Entry}
 use Rattle.slnf_access.specs.Map.{IsLegal}
-use Rattle.slnf_bucket.specs.Bucket.{Bucketed, Kept, AreOwn, IsHistory, IsKept}
+use Rattle.slnf_access.specs.Order.{IsHistory}
+use Rattle.slnf_bucket.specs.Bucket.{Bucketed, Kept, AreOwn, IsKept}
 use Rattle.slnf_bucket.proofs.Laws.{IsHistory-from_kept}
-use Rattle.slnf_merge.specs.Merge.{IsHistory as IsMergeable, AreHistories, InShards, EachLegal, all_of}
+use Rattle.slnf_merge.specs.Merge.{AreHistories, InShards, EachLegal, all_of}
 use Rattle.slnf_merge.proofs.Laws.{all_of-push}
 use Rattle.slnf_store_bench.specs.Shards.{AreShards, IsSharded, AreStored}
 
@@ -57,20 +58,14 @@ IsSharded-back buckets k old new h inside is shard shards =
     let of = IsOf-lent buckets k old h inside is in
     IsSharded-set buckets k new h (record { shard_is = shard ∙ of.shard_is; shards_are = shards ∙ of.shards_are })
 
--- what a bucket's history is, a merge takes
-pub IsMergeable-from_history : (shard : ℕ) (es : List Entry) → IsHistory shard es → IsMergeable shard es
-IsMergeable-from_history shard [] h = tt
-IsMergeable-from_history shard (e ∷ []) h = h
-IsMergeable-from_history shard (e ∷ f ∷ es) h = (h.0, h.1, IsMergeable-from_history shard (f ∷ es) h.2)
-
 -- one history more
-AreHistories-push : (low : ℕ) (histories : List (List Entry)) (es : List Entry) → AreHistories low histories → IsMergeable (low + length histories) es → AreHistories low (histories ++ es ∷ [])
+AreHistories-push : (low : ℕ) (histories : List (List Entry)) (es : List Entry) → AreHistories low histories → IsHistory (low + length histories) es → AreHistories low (histories ++ es ∷ [])
 AreHistories-push low [] es h new =
     let first : low + length {A = List Entry} [] ≡ low = omega arith in
-    (subst (λ (shard : ℕ). IsMergeable shard es) first new, tt)
+    (subst (λ (shard : ℕ). IsHistory shard es) first new, tt)
 AreHistories-push low (x ∷ xs) es h new =
     let next : low + length (x ∷ xs) ≡ low + 1 + length xs = omega arith in
-    (h.0, AreHistories-push (low + 1) xs es h.1 (subst (λ (shard : ℕ). IsMergeable shard es) next new))
+    (h.0, AreHistories-push (low + 1) xs es h.1 (subst (λ (shard : ℕ). IsHistory shard es) next new))
 
 EachLegal-push : (histories : List (List Entry)) (es : List Entry) → EachLegal histories → IsLegal es → EachLegal (histories ++ es ∷ [])
 EachLegal-push [] es h new = (new, tt)
@@ -90,9 +85,9 @@ AreStored-push shards histories kept h is shard shards_are =
     let place : kept.shard ≡ 0 + length histories = omega arith in
     let own : InShards shards kept.entries = subst (λ (n : ℕ). InShards n kept.entries) shards_are (InShards-from_own kept.shard kept.shards kept.entries is.own) in
     let more : InShards shards (all_of histories ++ kept.entries) = InShards-append shards (all_of histories) kept.entries h.own own in
-    let new = IsMergeable-from_history kept.shard kept.entries (IsHistory-from_kept kept is) in
+    let new = IsHistory-from_kept kept is in
     record {
-      in_place = AreHistories-push 0 histories kept.entries h.in_place (subst (λ (s : ℕ). IsMergeable s kept.entries) place new);
+      in_place = AreHistories-push 0 histories kept.entries h.in_place (subst (λ (s : ℕ). IsHistory s kept.entries) place new);
       own = rw all_of-push more;
       legal = EachLegal-push histories kept.entries h.legal is.legal;
     }

@@ -3,7 +3,7 @@
 
 ghost use Rattle.std.specs.Prelude.{IfOk};
 ghost use Rattle.slnf_access.specs.Map.{IsLegal};
-ghost use Rattle.slnf_merge.specs.Merge.{InOrder};
+ghost use Rattle.slnf_access.specs.Order.{InOrder};
 
 mod mixes;
 mod shards;

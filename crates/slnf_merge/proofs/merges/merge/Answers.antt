@@ -4,7 +4,8 @@ use Rattle.std.specs.List.Sorted.{IsPermutation}
 use Rattle.std.proofs.lemmas.Fn.{always_returns_same}
 use Rattle.std.proofs.lemmas.List.{map_more, take_all}
 use Rattle.slnf_access.specs.declared.requests.Entry.{Entry}
-use Rattle.slnf_merge.specs.Merge.{all_of, InOrder}
+use Rattle.slnf_access.specs.Order.{InOrder}
+use Rattle.slnf_merge.specs.Merge.{all_of}
 use Rattle.slnf_merge.proofs.Orders.{all_distinct, sorted_in_order}
 use Rattle.slnf_merge.proofs.Laws.{all_of-push, merges_legally}
 use Rattle.slnf_merge.proofs.merges.merge.Goals as goal
