@@ -1,8 +1,8 @@
 -- What an epoch that was read keeps.
-use Rattle.std.proofs.Common.{◌≡◌, ℕ, zero, suc, ◌+◌, ◌^◌, ◌<◌, ◌≤◌, Bool, true, false, not, ◌&&◌, ◌||◌, cond, eqb, ltb, leb, nat_lt, nat_le, List, [], ◌∷◌, ◌++◌, length, map, Option, Some, None, Result, Ok, Err, refl, sym, ap, ◌∙◌, subst, arith}
+use Rattle.std.proofs.Common.{◌≡◌, ℕ, zero, suc, ◌+◌, ◌^◌, ◌<◌, ◌≤◌, Bool, true, false, not, ◌&&◌, cond, eqb, ltb, nat_lt, nat_le, List, [], ◌∷◌, ◌++◌, length, map, Option, Ok, refl, sym, subst, arith}
 use Rattle.std.specs.Prelude.{codes, decimal, ◌==◌}
 use Rattle.std.specs.List.{list_any, list_all}
-use Rattle.std.proofs.lemmas.Bool.{and_parts, or_parts, and_from, lt-ltb, le-leb, ltb-true, eqb-true, eqb-false, ne_eqb, not-true}
+use Rattle.std.proofs.lemmas.Bool.{and_parts, or_parts, and_from, lt-ltb, le-leb, eqb-false, ne_eqb, not-true}
 use Rattle.std.proofs.lemmas.List.{length-append}
 use Rattle.toml.specs.Data.{Data, Items, no_items, item, Members}
 use Rattle.slnf_plan.specs.declared.function_kind.FunctionKind.{FunctionKind}
@@ -10,14 +10,13 @@ use Rattle.slnf_plan.specs.declared.function_kind.FunctionKind.TheVariants as ki
 use Rattle.slnf_plan.specs.declared.plan.Epoch.{Epoch}
 use Rattle.slnf_plan.specs.declared.plan.InstancePlan.{InstancePlan}
 use Rattle.slnf_plan.specs.declared.plan.SweepPlan.{SweepPlan}
-use Rattle.slnf_plan.specs.declared.plan.SweepPlan.TheVariants.{No, Yes}
+use Rattle.slnf_plan.specs.declared.plan.SweepPlan.TheVariants.{No}
 use Rattle.slnf_plan.specs.declared.refusal.Cause.TheVariants.{MissingKey, OutOfRange, LaneTwice, NoBackend, ScheduleActor}
-use Rattle.slnf_plan.specs.declared.refusal.Refusal.{Refusal}
-use Rattle.slnf_plan.specs.Ranges.{is_at_most, is_instance, has_instances, are_distinct, has_lanes_apart, is_sweep, sweep_count, actor_count, has_actors}
+use Rattle.slnf_plan.specs.Ranges.{is_at_most, is_instance, has_instances, are_distinct, has_lanes_apart, is_sweep, sweep_count, has_actors}
 use Rattle.slnf_plan.specs.Refusals.{◌>>=◌, refuse, under}
-use Rattle.slnf_plan.specs.Tables.{from_to, number, truth, any_count, at_most, one_to, list_of, list_after, elements, required, optional, defaulted, table}
+use Rattle.slnf_plan.specs.Tables.{from_to, number, truth, any_count, at_most, one_to, list_of, elements, required, optional, defaulted, table}
 use Rattle.slnf_plan.specs.Plans.{instance_keys, instance_rows, on_free_lane, instance_table, instance_list, instances_row, places, active_row, stop_count, sweep_of, sweep_row, schedule_row, epoch_keys, epoch_rows, epoch_table}
-use Rattle.slnf_plan.proofs.Laws.{bind_ok, under_ok, ok_is, demanded_ok, demanded_reads, defaulted_reads, optional_reads, Reads, if_some, table_ok, list_ok, list_most, list_some, list_reads, most_reads, below_reads}
+use Rattle.slnf_plan.proofs.Laws.{bind_ok, under_ok, ok_is, demanded_ok, demanded_reads, defaulted_reads, optional_reads, table_ok, list_ok, list_most, list_some, list_reads, most_reads, below_reads}
 
 -- ---- instances
 

@@ -1,5 +1,5 @@
 -- What a function's table that was read keeps.
-use Rattle.std.proofs.Common.{◌≡◌, ℕ, zero, suc, ◌+◌, ◌<◌, ◌≤◌, Bool, true, false, ◌&&◌, ◌||◌, cond, eqb, leb, nat_le, List, [], ◌∷◌, length, map, Option, Some, None, Result, Ok, Err, refl, sym, ap, ◌∙◌, subst, arith}
+use Rattle.std.proofs.Common.{◌≡◌, ℕ, suc, Bool, true, false, ◌&&◌, ◌||◌, cond, eqb, leb, nat_le, List, [], ◌∷◌, length, map, Option, Some, None, Result, Ok, refl, sym, ap, ◌∙◌, subst}
 use Rattle.std.specs.Prelude.{codes, ◌==◌, ℤ, pos, negsuc, option_and_then}
 use Rattle.std.specs.List.{list_all}
 use Rattle.std.proofs.lemmas.Bool.{and_parts, and_from, le-leb, leb-true}
@@ -13,17 +13,16 @@ use Rattle.slnf_plan.specs.declared.function_kind.FunctionKind.{FunctionKind}
 use Rattle.slnf_plan.specs.declared.function_kind.FunctionKind.TheVariants as kinds
 use Rattle.slnf_plan.specs.declared.plan.FunctionPlan.{FunctionPlan}
 use Rattle.slnf_plan.specs.declared.plan.FunctionPlan.TheVariants.{Nat, Firewall, Balancer}
-use Rattle.slnf_plan.specs.declared.refusal.Cause.{Cause}
 use Rattle.slnf_plan.specs.declared.refusal.Cause.TheVariants.{MissingKey, BadAddress, BadPrefix, NoBackend, OutOfRange}
 use Rattle.slnf_plan.specs.declared.refusal.Refusal.{Refusal}
-use Rattle.slnf_plan.specs.Plain.{PlainPrefix, PlainPool, PlainRule, PlainFunction, nat, firewall, balancer, plain_rule, plain_function}
+use Rattle.slnf_plan.specs.Plain.{PlainPrefix, PlainRule, PlainFunction, nat, firewall, balancer, plain_rule, plain_function}
 use Rattle.slnf_plan.specs.Ranges.{has_port, is_rule, fits_function}
 use Rattle.slnf_plan.specs.Refusals.{◌>>=◌, refuse, under}
-use Rattle.slnf_plan.specs.Tables.{of_kind, text, one_of, at_most, one_to, list_of, required, defaulted}
+use Rattle.slnf_plan.specs.Tables.{text, one_of, at_most, one_to, list_of, required, defaulted}
 use Rattle.slnf_plan.specs.Texts.{pair_of, prefix_of, address_at, decimal_after}
 use Rattle.slnf_plan.specs.Values.{whole, in_order, two_ports, ports}
 use Rattle.slnf_plan.specs.Plans.{anywhere, nat_table, rule_keys, rule_rows, rule_table, firewall_keys, firewall_rows, firewall_table, balancer_keys, balancer_rows, balancer_table, function_row, backend_count}
-use Rattle.slnf_plan.proofs.Laws.{bind_ok, under_ok, kind_ok, ok_is, demanded_ok, demanded_reads, defaulted_reads, Reads, table_ok, list_most, list_some, list_reads, text_reads, words_read}
+use Rattle.slnf_plan.proofs.Laws.{bind_ok, kind_ok, ok_is, demanded_ok, demanded_reads, defaulted_reads, Reads, table_ok, list_most, list_some, list_reads, text_reads, words_read}
 use Rattle.slnf_plan.proofs.EpochLaws.{backends_fit}
 
 -- ---- ports

@@ -1,8 +1,8 @@
 -- What a plan that was read keeps.
-use Rattle.std.proofs.Common.{◌≡◌, ℕ, ◌<◌, ◌≤◌, Bool, true, ltb, leb, List, length, Ok, refl, sym, ap, ◌∙◌, subst, arith}
+use Rattle.std.proofs.Common.{◌≡◌, ℕ, ◌<◌, ◌≤◌, Bool, true, ltb, leb, List, length, Ok, refl, arith}
 use Rattle.std.specs.Prelude.{codes}
 use Rattle.std.specs.List.{list_all}
-use Rattle.std.proofs.lemmas.Bool.{and_parts, leb-true, lt-ltb, le-leb, ltb-true}
+use Rattle.std.proofs.lemmas.Bool.{leb-true, lt-ltb, le-leb, ltb-true}
 use Rattle.toml.specs.Data.{Data, Members}
 use Rattle.slnf_plan.specs.declared.function_kind.FunctionKind.{FunctionKind}
 use Rattle.slnf_plan.specs.declared.plan.Epoch.{Epoch}
@@ -10,12 +10,12 @@ use Rattle.slnf_plan.specs.declared.plan.FunctionPlan.{FunctionPlan}
 use Rattle.slnf_plan.specs.declared.plan.FunctionPlan.TheVariants.{Nat, Firewall, Balancer}
 use Rattle.slnf_plan.specs.declared.refusal.Cause.TheVariants.{NoEpoch, OutOfRange}
 use Rattle.slnf_plan.specs.Plain.{plain_function}
-use Rattle.slnf_plan.specs.Ranges.{fits_function, has_instances, has_lanes_apart, has_places, has_sweep, has_actors}
-use Rattle.slnf_plan.specs.Tables.{number, one_to, list_of, demanded, defaulted}
+use Rattle.slnf_plan.specs.Ranges.{has_instances, has_lanes_apart, has_places, has_sweep, has_actors}
+use Rattle.slnf_plan.specs.Tables.{number, one_to, list_of, defaulted}
 use Rattle.slnf_plan.specs.Plans.{function_row, backend_count, epoch_table, shards_row, batch_row, epochs_row}
 use Rattle.slnf_plan.proofs.Laws.{demanded_ok, defaulted_reads, list_most, list_some, list_reads, number_within}
-use Rattle.slnf_plan.proofs.EpochLaws.{IsEpoch, epoch_keeps, places_fit, sweep_fits}
-use Rattle.slnf_plan.proofs.FunctionLaws.{IsFunction, function_keeps, fits_of, kind_of, backends_of}
+use Rattle.slnf_plan.proofs.EpochLaws.{epoch_keeps, places_fit, sweep_fits}
+use Rattle.slnf_plan.proofs.FunctionLaws.{function_keeps, fits_of, kind_of, backends_of}
 
 -- a number with a default, which are both in range
 pub defaulted_within : (default : ℕ) (key : List ℕ) (low end : ℕ) (ms : Members) (x : ℕ) → low ≤ default → default < end → defaulted default key (number OutOfRange low end) ms ≡ Ok x → (low ≤ x) × (x < end)

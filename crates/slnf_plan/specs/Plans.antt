@@ -1,20 +1,16 @@
 -- The tables of a plan: each line of a table is a key with its kind and its rule, in the order in which they
 -- are checked.
-use Rattle.std.specs.Prelude.{ℕ, ◌+◌, ◌^◌, zero, suc, Bool, true, false, ◌==◌, List, [], ◌∷◌, ◌++◌, length, map, Option, Some, None, Result, Ok, Err, codes, if◌then◌else◌}
+use Rattle.std.specs.Prelude.{ℕ, ◌+◌, ◌^◌, zero, suc, Bool, true, false, ◌==◌, List, [], ◌∷◌, ◌++◌, length, Option, Result, Ok, codes, if◌then◌else◌}
 use Rattle.std.specs.List.{list_any}
 use Rattle.toml.specs.Data.{Data, Members}
-use Rattle.slnf_base.specs.declared.addresses.Pair.{Pair}
-use Rattle.slnf_base.specs.declared.packets.Proto.{Proto}
 use Rattle.slnf_base.specs.declared.packets.Proto.TheVariants.{Tcp, Udp}
 use Rattle.slnf_base.specs.declared.plans.Service.{Service}
 use Rattle.slnf_plan.specs.declared.plan.InstancePlan.{InstancePlan}
 use Rattle.slnf_plan.specs.declared.plan.SweepPlan.{SweepPlan}
 use Rattle.slnf_plan.specs.declared.plan.SweepPlan.TheVariants.{No, Yes}
 use Rattle.slnf_plan.specs.declared.plan.Epoch.{Epoch}
-use Rattle.slnf_plan.specs.declared.refusal.Cause.{Cause}
 use Rattle.slnf_plan.specs.declared.refusal.Cause.TheVariants.{BadAddress, BadPrefix, OutOfRange, LaneTwice, NoBackend, NoEpoch, ScheduleActor}
 use Rattle.slnf_plan.specs.declared.refusal.Refusal.{Refusal}
-use Rattle.slnf_plan.specs.declared.count.Count.{Count}
 use Rattle.slnf_plan.specs.declared.function_kind.FunctionKind.{FunctionKind}
 use Rattle.slnf_plan.specs.declared.function_kind.FunctionKind.TheVariants as kinds
 use Rattle.slnf_plan.specs.Plain.{PlainPrefix, PlainPool, PlainRule, PlainFunction, nat, firewall, balancer, PlainPlan}

@@ -1,5 +1,5 @@
 -- Why a value is refused, and where.
-use Rattle.std.specs.Prelude.{◌≡◌, ℕ, List, Option, Some, None, Result, Ok, Err}
+use Rattle.std.specs.Prelude.{◌≡◌, ℕ, List, Some, None, Result, Ok, Err}
 use Rattle.slnf_plan.specs.declared.refusal.Cause.{Cause}
 use Rattle.slnf_plan.specs.declared.refusal.Refusal.{Refusal}
 use Rattle.slnf_plan.specs.declared.refusal.Fault.{Fault}

@@ -1,5 +1,5 @@
 -- Addresses apart from a prefix, and pairs of ports.
-use Rattle.std.specs.Prelude.{ℕ, ◌-◌, ◌/◌, ◌^◌, ℤ, pos, negsuc, Bool, ◌&&◌, ◌==◌, nat_le, Option, Some, None, Result, Ok, Err, codes, if◌then◌else◌}
+use Rattle.std.specs.Prelude.{ℕ, ◌-◌, ◌/◌, ◌^◌, ℤ, pos, Bool, ◌&&◌, ◌==◌, nat_le, Option, Some, None, Result, Ok, codes, if◌then◌else◌}
 use Rattle.toml.specs.Data.{Data, Items, no_items, item, as_integer, as_array}
 use Rattle.slnf_plan.specs.declared.refusal.Cause.TheVariants.{WrongType, OutOfRange}
 use Rattle.slnf_plan.specs.declared.refusal.Refusal.{Refusal}

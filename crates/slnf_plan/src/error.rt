@@ -87,8 +87,8 @@ impl fmt::Display for PlanError {
     fn fmt<W: fmt::Write>(&self, f: &mut fmt::Formatter<W>) -> fmt::Result {
         f.write_str(self.words())?;
         match self.path() {
-            Some(path) => write!(f, " at `{path}`"),
-            None => Ok(()),
+            Some(path) if !path.is_empty() => write!(f, " at `{path}`"),
+            _ => Ok(()),
         }
     }
 }

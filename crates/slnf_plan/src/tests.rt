@@ -233,12 +233,12 @@ fn odd_documents_are_no_toml(rt: HostRuntime) -> Result<(), Fail> {
 #[test]
 fn errors_tell_their_paths(rt: HostRuntime) -> Result<(), Fail> {
     let mut told = String::new(rt.alloc());
-    for text in ["colour = 1", "function = \"nat\"\nnat = {}"] {
+    for text in ["colour = 1", "function = \"nat\"\nnat = {}", "= 1"] {
         if let Err(error) = read_plan(rt.alloc(), text.as_bytes()) {
             told.push_str(format!(in rt.alloc(); "{error}; ")?.as_str())?;
         }
     }
-    let wanted = "unknown key at `colour`; missing key at `nat.inside`; ";
+    let wanted = "unknown key at `colour`; missing key at `nat.inside`; not TOML; ";
     assert!(rt; told.as_str() == wanted, "{told}");
     Ok(())
 }

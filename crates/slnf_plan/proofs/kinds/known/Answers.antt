@@ -3,7 +3,7 @@ use Rattle.std.specs.List.{list_any}
 use Rattle.std.specs.Str.{bytes_eq}
 use Rattle.slnf_plan.specs.declared.refusal.Cause.TheVariants.{UnknownKey}
 use Rattle.slnf_plan.specs.Refusals.{refuse}
-use Rattle.slnf_plan.specs.Tables.{is_unlisted, none_found}
+use Rattle.slnf_plan.specs.Tables.{is_unlisted}
 use Rattle.slnf_plan.proofs.Keys.{names-members_view, known_goes_on, known_stops, fails_under}
 use Rattle.slnf_plan.proofs.kinds.known.Goals as goal
 

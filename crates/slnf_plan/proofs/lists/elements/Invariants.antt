@@ -1,4 +1,4 @@
-use Rattle.std.proofs.Common.{◌≡◌, ℕ, List, [], map, drop, length}
+use Rattle.std.proofs.Common.{◌≡◌, [], map, drop, length}
 use Rattle.toml.specs.View.{items_view}
 use Rattle.slnf_plan.specs.Tables.{elements}
 use Rattle.slnf_plan.proofs.lists.elements.Given as goal

@@ -1,4 +1,3 @@
-use Rattle.std.proofs.Common.{◌≡◌}
 use Rattle.toml.specs.View.{table_view}
 use Rattle.slnf_plan.specs.Plain.{plain_function}
 use Rattle.slnf_plan.specs.Plans.{backend_count, epochs_row}
