@@ -1,6 +1,6 @@
 ghost use Rattle.std.specs.Prelude.{◌≡◌, ◌-◌, ◌^◌, ◌<◌, ◌≤◌, Some, length, map, IfOk};
 ghost use Rattle.std.specs.List.{range_with_len};
-ghost use Rattle.slnf_access.specs.Machines.{Stand, stand_of_start, stand_of_step, stand_step};
+ghost use Rattle.slnf_access.specs.Machines.{Stand, Flies, Ends, stand_of_start, stand_of_step, stand_step};
 ghost use Rattle.slnf_access.specs.Map.{CanReply};
 ghost use Rattle.slnf_access.specs.declared.requests.Entry.{Entry};
 ghost use Rattle.slnf_flight.specs.Standings.{standing_at, machine_of, begun_of, stand_in, IsFollowed};
@@ -19,19 +19,33 @@ pub(crate) struct Standing<T> {
     pub(crate) verdict: Verdict,
 }
 
+/// A packet that is under way, with this flight.
+fn under_way<T: Drop>(flight: T) -> Standing<T>
+    ensures { result ≡ standing_at (Flies flight) }
+{
+    Standing {
+        flight: Some(flight),
+        verdict: Verdict::Lost,
+    }
+}
+
+/// A packet that has ended, with this verdict.
+fn ended<T: Drop>(verdict: Verdict) -> Standing<T>
+    ensures { result ≡ standing_at (Ends (Some verdict)) }
+{
+    Standing {
+        flight: None,
+        verdict,
+    }
+}
+
 /// Where a packet stands that begins so.
 fn started<T: Drop>(start: Start<T>) -> Standing<T>
     ensures { result ≡ standing_at (stand_of_start start) }
 {
     match start {
-        Start::Go(flight) => Standing {
-            flight: Some(flight),
-            verdict: Verdict::Lost,
-        },
-        Start::Over(reason) => Standing {
-            flight: None,
-            verdict: Verdict::Dropped(reason),
-        },
+        Start::Go(flight) => under_way(flight),
+        Start::Over(reason) => ended(Verdict::Dropped(reason)),
     }
 }
 
@@ -40,14 +54,8 @@ fn gone<T: Drop>(step: Step<T>) -> Standing<T>
     ensures { result ≡ standing_at (stand_of_step step) }
 {
     match step {
-        Step::Go(flight) => Standing {
-            flight: Some(flight),
-            verdict: Verdict::Lost,
-        },
-        Step::Over(verdict) => Standing {
-            flight: None,
-            verdict,
-        },
+        Step::Go(flight) => under_way(flight),
+        Step::Over(verdict) => ended(verdict),
     }
 }
 
