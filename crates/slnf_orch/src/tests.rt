@@ -1,4 +1,5 @@
-ghost use Rattle.std.specs.Prelude.{◌≡◌, [], ◌∷◌, length, IfOk, IsTrue};
+ghost use Rattle.std.specs.List.{list_all};
+ghost use Rattle.std.specs.Prelude.{◌≡◌, ◌≤◌, [], ◌∷◌, length, IfOk, IsTrue};
 ghost use Rattle.slnf_base.specs.declared.plans.Service.{Service};
 ghost use Rattle.slnf_plan.specs.declared.plan.FunctionPlan.TheVariants.{Balancer};
 ghost use Rattle.slnf_plan.specs.Ranges.{is_instance, has_instances, has_lanes_apart, has_places, has_sweep, has_actors, fits_function};
@@ -102,12 +103,7 @@ fn plan_alone(alloc: Global) -> Result<Plan, Fail>
         quota: None,
         stop: None,
     };
-    Ok(Plan {
-        function: FunctionPlan::Balancer(service(alloc)?),
-        shards: 1,
-        batch: 1,
-        epochs: Row::from_vec(one(alloc, epoch_of(alloc, alone)?)?),
-    })
+    plan_of(alloc, one(alloc, epoch_of(alloc, alone)?)?)
 }
 
 /// A balancer's plan in which one instance stops behind its second access, and another takes one packet more.
@@ -127,6 +123,21 @@ fn plan_stopped(alloc: Global) -> Result<Plan, Fail>
     };
     let mut epochs = one(alloc, epoch_of(alloc, stopped)?)?;
     epochs.push(epoch_of(alloc, drained)?)?;
+    plan_of(alloc, epochs)
+}
+
+/// A plan of the service with one shard and these epochs.
+fn plan_of(alloc: Global, epochs: Vec<Epoch>) -> Result<Plan, Fail>
+    requires some { 1 ≤ length epochs.items }
+    requires few { length epochs.items ≤ 1000 }
+    requires instances { IsTrue (list_all has_instances epochs.items) }
+    requires lanes { IsTrue (list_all has_lanes_apart epochs.items) }
+    requires places { (service : Service) → length service.backends ≡ 2 → IsTrue (list_all (has_places (Balancer service)) epochs.items) }
+    requires sweep { (service : Service) → IsTrue (list_all (has_sweep (Balancer service)) epochs.items) }
+    requires actors { IsTrue (list_all has_actors epochs.items) }
+    ensures balancer { IfOk result (λ plan. IsBalancer plan.function) }
+    ensures one_by_one { IfOk result (λ plan. plan.batch ≡ 1) }
+{
     Ok(Plan {
         function: FunctionPlan::Balancer(service(alloc)?),
         shards: 1,
