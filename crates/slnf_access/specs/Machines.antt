@@ -1,4 +1,5 @@
-use Rattle.std.specs.Prelude.{◌≡◌, Option, Some, List, [], ◌∷◌}
+use Rattle.std.specs.Prelude.{◌≡◌, ℕ, Option, Some, List, [], ◌∷◌}
+use Rattle.slnf_base.specs.declared.packets.Packet.{Packet}
 use Rattle.slnf_base.specs.declared.packets.Verdict.{Verdict}
 use Rattle.slnf_base.specs.declared.packets.Verdict.TheVariants.{Dropped}
 use Rattle.slnf_access.specs.declared.functions.Start.{Start}
@@ -21,6 +22,15 @@ pub record Machine (F : Type 0) : Type 0 where
   pub goes : F → Reply → Stand F
   pub decided : F → Option Verdict
 
+-- What a function does with packets: how one begins, by the incarnation and the packet's number; the access that a
+-- flight makes next; how it goes on after a reply; and the verdict that it has already decided, where it still has an
+-- access to make.
+pub record Behaviour (F : Type 0) : Type 0 where
+  pub begins : ℕ → ℕ → Packet → Start F
+  pub asks : F → Request
+  pub goes : F → Reply → Step F
+  pub decided : F → Option Verdict
+
 -- where a packet stands that begins so
 abbrev pub stand_of_start : {F : Type 0} → Start F → Stand F
 stand_of_start (StartGo flight) = Flies flight
@@ -30,6 +40,14 @@ stand_of_start (StartOver reason) = Ends (Some (Dropped reason))
 abbrev pub stand_of_step : {F : Type 0} → Step F → Stand F
 stand_of_step (StepGo flight) = Flies flight
 stand_of_step (StepOver verdict) = Ends (Some verdict)
+
+-- the machine of a function's flights
+abbrev pub machine_of : {F : Type 0} → Behaviour F → Machine F
+machine_of behaviour = record {
+  asks = behaviour.asks;
+  goes = λ flight reply. stand_of_step (behaviour.goes flight reply);
+  decided = behaviour.decided;
+}
 
 -- where an item stands after one more entry
 abbrev pub stand_step : {F : Type 0} → Machine F → Stand F → Entry → Stand F

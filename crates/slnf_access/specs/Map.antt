@@ -1,4 +1,4 @@
-use Rattle.std.specs.Prelude.{◌≡◌, ◌==◌, ℕ, Option, Some, None, List, [], ◌∷◌, if◌then◌else◌}
+use Rattle.std.specs.Prelude.{◌≡◌, ◌==◌, ℕ, Bool, true, false, Option, Some, None, List, [], ◌∷◌, if◌then◌else◌}
 use Rattle.slnf_access.specs.declared.requests.Value.{Value}
 use Rattle.slnf_access.specs.declared.requests.Held.{Held}
 use Rattle.slnf_access.specs.declared.requests.Entry.{Entry}
@@ -17,7 +17,8 @@ key_of (DeleteIf key version) = key.0
 -- the reply to an access that acts only where the version is the one that it names
 abbrev pub conditional_reply : ℕ → ℕ → Option Held → Reply
 conditional_reply version stamp None = Absent
-conditional_reply version stamp (Some held) = if held.version == version then Done stamp else Found held.value held.version
+conditional_reply version stamp (Some held) =
+    if held.version == version then Done stamp else Found held.value held.version
 
 -- the reply to an access with this stamp, where the key has this
 abbrev pub reply_to : Request → ℕ → Option Held → Reply
@@ -30,7 +31,8 @@ reply_to (DeleteIf key version) stamp held = conditional_reply version stamp hel
 
 -- what a replace leaves of what is there
 abbrev pub replaced : ℕ → ℕ → Value → Held → Held
-replaced version stamp value held = if held.version == version then record { value = value; version = stamp } else held
+replaced version stamp value held =
+    if held.version == version then record { value = value; version = stamp } else held
 
 -- what a delete leaves of what is there
 abbrev pub deleted : ℕ → Held → Option Held
@@ -70,11 +72,18 @@ map_after cells es = λ key. cell_of key (cells key) es
 -- each entry's reply is the access's, with its stamp, on the map that the entries before it make
 abbrev pub IsLegalFrom : Cells → List Entry → Type 0
 IsLegalFrom cells [] = Unit {0}
-IsLegalFrom cells (e ∷ es) = (e.reply ≡ reply_to e.request e.stamp (cells (key_of e.request))) × IsLegalFrom (map_after cells (e ∷ [])) es
+IsLegalFrom cells (e ∷ es) =
+    (e.reply ≡ reply_to e.request e.stamp (cells (key_of e.request))) × IsLegalFrom (map_after cells (e ∷ [])) es
 
 -- the same from the empty map
 abbrev pub IsLegal : List Entry → Type 0
 IsLegal es = IsLegalFrom empty es
+
+-- the access was done
+abbrev pub is_done : Reply → Bool
+is_done (Done stamp) = true
+is_done (Found value version) = false
+is_done Absent = false
 
 -- the replies that an access can have
 abbrev pub CanReply : Request → Reply → Type 0

@@ -1,14 +1,10 @@
-ghost use Rattle.std.specs.Prelude.{◌≡◌, ◌^◌, ◌<◌, ℕ, Option};
+ghost use Rattle.std.specs.Prelude.{◌≡◌, ◌^◌, ◌<◌, ℕ};
 ghost use Rattle.slnf_base.specs.declared.packets.Packet.{Packet};
 ghost use Rattle.slnf_base.specs.declared.packets.Reason.TheVariants.{Neither};
 ghost use Rattle.slnf_base.specs.declared.packets.Reason.{Reason};
-ghost use Rattle.slnf_base.specs.declared.packets.Verdict.{Verdict};
-ghost use Rattle.slnf_access.specs.declared.requests.Reply.{Reply};
-ghost use Rattle.slnf_access.specs.declared.requests.Request.{Request};
-ghost use Rattle.slnf_access.specs.declared.functions.Start.{Start};
 ghost use Rattle.slnf_access.specs.declared.functions.Start.TheVariants.{Over as StartOver};
-ghost use Rattle.slnf_access.specs.declared.functions.Step.{Step};
 ghost use Rattle.slnf_access.specs.Map.{CanReply};
+ghost use Rattle.slnf_access.specs.Machines.{Behaviour};
 
 use crate::requests::{Reply, Request};
 use slnf_base::{Packet, Reason, Verdict};
@@ -33,33 +29,25 @@ pub trait Function {
     /// A packet under way, between two accesses.
     type Flight: Drop;
 
-    /// How a packet begins, by the incarnation and the packet's number.
-    ghost begins: { Self → ℕ → ℕ → Packet → Start Self.Flight };
-
-    /// The access that a flight makes next.
-    ghost asks: { Self → Self.Flight → Request };
-
-    /// How a flight goes on after a reply.
-    ghost goes: { Self → Self.Flight → Reply → Step Self.Flight };
-
-    /// The verdict that a flight has already decided, where it still has an access to make.
-    ghost decided: { Self → Self.Flight → Option Verdict };
+    /// What the function does with packets.
+    ghost behaviour: { Self → Behaviour Self.Flight };
 
     /// The packet's first flight, or `Neither` where it has no direction of the function.
     fn start(&self, incarnation: u64, number: u64, packet: &Packet) -> Start<Self::Flight>
         requires incarnation { incarnation < 2 ^ 32 }
         requires number { number < 2 ^ 32 }
-        ensures { result ≡ begins self.now incarnation number packet.now };
+        ensures { result ≡ (behaviour self.now).begins incarnation number packet.now };
 
     /// The access that the flight makes next.
     fn next(&self, flight: &Self::Flight) -> Request
-        ensures { result ≡ asks self.now flight.now };
+        ensures { result ≡ (behaviour self.now).asks flight.now };
 
     /// The flight after the reply, or its verdict.
     fn after(&self, flight: Self::Flight, reply: Reply) -> Step<Self::Flight>
-        requires { CanReply (asks self.now flight) reply }
-        ensures { result ≡ goes self.now flight reply };
+        requires { CanReply ((behaviour self.now).asks flight) reply }
+        ensures { result ≡ (behaviour self.now).goes flight reply };
 
     /// A packet is refused for want of a direction alone.
-    ghost refuses: { (function : Self) (incarnation number : ℕ) (packet : Packet) (reason : Reason) → begins function incarnation number packet ≡ StartOver reason → reason ≡ Neither };
+    ghost refuses: { (function : Self) (incarnation number : ℕ) (packet : Packet) (reason : Reason)
+        → (behaviour function).begins incarnation number packet ≡ StartOver reason → reason ≡ Neither };
 }

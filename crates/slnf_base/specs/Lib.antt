@@ -1,3 +1,4 @@
 pub mod Prefix
 pub mod Numbers
 pub mod Equal
+pub mod Ranges

@@ -1,4 +1,4 @@
-use Rattle.std.specs.Prelude.{ℕ}
+use Rattle.std.specs.Prelude.{ℕ, ◌==◌, if◌then◌else◌, Option, Some, None}
 use Rattle.slnf_base.specs.declared.packets.Proto.{Proto}
 use Rattle.slnf_base.specs.declared.packets.Proto.TheVariants.{Tcp, Udp}
 use Rattle.slnf_base.specs.declared.packets.Reason.{Reason}
@@ -8,6 +8,11 @@ use Rattle.slnf_base.specs.declared.packets.Reason.TheVariants.{NotIpv4, Fragmen
 abbrev pub proto_number : Proto → ℕ
 proto_number Tcp = 6
 proto_number Udp = 17
+
+-- the transport protocol with this number, where it is one
+abbrev pub proto_with : ℕ → Option Proto
+proto_with number =
+    if number == proto_number Tcp then Some Tcp else (if number == proto_number Udp then Some Udp else None)
 
 -- a reason's number in the texts
 abbrev pub reason_number : Reason → ℕ

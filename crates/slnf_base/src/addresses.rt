@@ -1,4 +1,4 @@
-ghost use Rattle.std.specs.Prelude.{◌≡◌, ◌≤◌, ◌-◌, ◌/◌, ◌%◌, ◌^◌, ◌↔◌, IsTrue};
+ghost use Rattle.std.specs.Prelude.{◌≡◌, ◌≤◌, ◌-◌, ◌/◌, ◌%◌, ◌^◌, IsTrue};
 
 /// An IPv4 address and a port. The first byte of the address is the highest of `addr`.
 #[derive(Clone, Copy, Debug, PartialEq, Eq, PartialOrd, Ord)]
@@ -6,6 +6,13 @@ pub struct Pair {
     pub addr: u32,
     pub port: u16,
 }
+
+ghost use Rattle.slnf_base.specs.Ranges.{is_pair};
+
+/// A pair's address and port have their ranges. It does nothing: a caller has the pair as a value.
+pub fn know_pair(pair: Pair)
+    ensures { IsTrue (is_pair pair) }
+{}
 
 /// The addresses whose first `bits` bits are those of `addr`: 0 to 32 bits, and zeros after them.
 #[derive(Clone, Copy, Debug, PartialEq, Eq)]
@@ -17,11 +24,11 @@ pub struct Prefix {
 }
 
 impl Prefix {
-    ghost use Rattle.slnf_base.specs.Prefix.{IsInside};
+    ghost use Rattle.slnf_base.specs.Prefix.{is_inside};
 
     /// Whether the address begins with the prefix.
     pub fn contains(&self, addr: u32) -> bool
-        ensures { IsTrue result ↔ IsInside self.now addr }
+        ensures { result ≡ is_inside self.now addr }
     {
         // In 64 bits a shift by 32 is one too.
         let shift = 32 - self.bits;

@@ -8,7 +8,7 @@ mod plans;
 mod rows;
 mod texts;
 
-pub use addresses::{Pair, Prefix};
+pub use addresses::{Pair, Prefix, know_pair};
 pub use memory::NoMemory;
 pub use packets::{Change, Link, Packet, Proto, Reason, Verdict};
 pub use plans::{Pool, Service};

@@ -17,7 +17,7 @@ pub enum Proto {
 }
 
 impl Proto {
-    ghost use Rattle.slnf_base.specs.Numbers.{proto_number};
+    ghost use Rattle.slnf_base.specs.Numbers.{proto_number, proto_with};
 
     /// The protocol's number in the IPv4 header (RFC 791): 6 for TCP and 17 for UDP.
     pub fn number(&self) -> u8
@@ -26,6 +26,17 @@ impl Proto {
         match self {
             Proto::Tcp => 6,
             Proto::Udp => 17,
+        }
+    }
+
+    /// The protocol with this number, and `None` where it is neither's.
+    pub fn from_number(number: u8) -> Option<Proto>
+        ensures { result ≡ proto_with number }
+    {
+        match number {
+            6 => Some(Proto::Tcp),
+            17 => Some(Proto::Udp),
+            _ => None,
         }
     }
 }

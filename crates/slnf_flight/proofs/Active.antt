@@ -6,7 +6,7 @@ use Rattle.std.specs.List.{list_all}
 use Rattle.std.proofs.lemmas.List.Folds.{list_all-append}
 use Rattle.slnf_base.specs.declared.addresses.Pair.{Pair}
 use Rattle.slnf_base.specs.declared.plans.Service.{Service}
-use Rattle.slnf_lb.specs.Ranges.{is_pair}
+use Rattle.slnf_base.specs.Ranges.{is_pair}
 use Rattle.slnf_flight.specs.PlanSetting.{backends_at}
 
 -- one more place

@@ -9,24 +9,24 @@ use Rattle.std.proofs.lemmas.List.{take-append-drop}
 use Rattle.slnf_base.specs.declared.packets.Verdict.{Verdict}
 use Rattle.slnf_base.specs.declared.plans.Service.{Service}
 use Rattle.slnf_access.specs.declared.requests.Entry.{Entry}
-use Rattle.slnf_access.specs.Machines.{Machine, Stand, IsPath}
+use Rattle.slnf_access.specs.Machines.{machine_of, Machine, Stand, IsPath}
 use Rattle.slnf_access.proofs.Laws.{path-front}
 use Rattle.slnf_plan.specs.declared.plan.Plan.{Plan}
 use Rattle.slnf_plan.specs.declared.plan.Epoch.{Epoch}
 use Rattle.slnf_plan.specs.declared.plan.FunctionPlan.{FunctionPlan}
 use Rattle.slnf_plan.specs.declared.plan.FunctionPlan.TheVariants.{Balancer}
-use Rattle.slnf_lb.specs.Machine.{lb_asks, lb_machine}
+use Rattle.slnf_lb.specs.Machine.{lb_machine}
 use Rattle.slnf_flight.specs.declared.functions.AnyFunction.{AnyFunction}
 use Rattle.slnf_flight.specs.declared.functions.AnyFunction.TheVariants.{Balancer as AnyBalancer}
 use Rattle.slnf_flight.specs.declared.lanes.Lane.{Lane}
 use Rattle.slnf_flight.specs.declared.lanes.Taken.{Taken}
 use Rattle.slnf_flight.specs.declared.shares.Share.{Share}
-use Rattle.slnf_flight.specs.Functions.{any_begins, any_goes, IsFunctionOf}
+use Rattle.slnf_flight.specs.Functions.{any_behaviour, IsFunctionOf}
 use Rattle.slnf_flight.specs.Lanes.{packets_on}
 use Rattle.slnf_flight.specs.Parts.{of_item}
 use Rattle.slnf_flight.specs.PlanSetting.{active_in, begins_with}
 use Rattle.slnf_flight.specs.Shares.{has_stopped, has_taken, lb_begun, lb_shown, rows_from}
-use Rattle.slnf_flight.specs.Standings.{machine_of, begun_of, stand_in, IsFollowed}
+use Rattle.slnf_flight.specs.Standings.{begun_of, stand_in, IsFollowed}
 use Rattle.slnf_flight.specs.Tables.{lists}
 use Rattle.slnf_flight.specs.Verdicts.{counted, verdict_at}
 use Rattle.slnf_flight.proofs.Entries.{of_item-append}
@@ -48,21 +48,21 @@ followed_counted machine begun es true h = followed_take machine begun es (lengt
 followed_counted machine begun es false h = h
 
 -- the machine of an epoch's function
-machine_any : (function : FunctionPlan) (service : Service) (epoch : Option Epoch) (any : AnyFunction) → function ≡ Balancer service → IsFunctionOf function epoch any → lb_machine service ≡ machine_of (λ flight. lb_asks flight) (any_goes any)
+machine_any : (function : FunctionPlan) (service : Service) (epoch : Option Epoch) (any : AnyFunction) → function ≡ Balancer service → IsFunctionOf function epoch any → lb_machine service ≡ machine_of (any_behaviour any)
 machine_any function service epoch (AnyBalancer f) is h =
     let k : (f.service ≡ service) × (f.active ≡ active_in service epoch) = subst (λ p. IsFunctionOf p epoch (AnyBalancer f)) is h in
     ap (λ (t : Service). lb_machine t) (sym k.0)
 
 -- and how packets begin with it
-begun_any : (plan : Plan) (service : Service) (lanes : List Lane) (epoch lane incarnation : ℕ) (any : AnyFunction) (packets : List Taken) → plan.function ≡ Balancer service → IsFunctionOf plan.function (slice_get plan.epochs epoch) any → packets ≡ packets_on lanes lane → lb_begun plan service lanes epoch lane incarnation ≡ begun_of (any_begins any incarnation) packets
+begun_any : (plan : Plan) (service : Service) (lanes : List Lane) (epoch lane incarnation : ℕ) (any : AnyFunction) (packets : List Taken) → plan.function ≡ Balancer service → IsFunctionOf plan.function (slice_get plan.epochs epoch) any → packets ≡ packets_on lanes lane → lb_begun plan service lanes epoch lane incarnation ≡ begun_of ((any_behaviour any).begins incarnation) packets
 begun_any plan service lanes epoch lane incarnation any packets is of own = λ i number.
     (ap (λ start. begins_with start (slice_get (packets_on lanes lane) number)) (function_begins plan.function service (slice_get plan.epochs epoch) any incarnation number is of)
-    ∙ ap (λ (l : List Taken). begins_with (any_begins any incarnation number) (slice_get l number)) (sym own)) i
+    ∙ ap (λ (l : List Taken). begins_with ((any_behaviour any).begins incarnation number) (slice_get l number)) (sym own)) i
 
 -- The epoch's function can follow the entries that count.
-pub followed_any : (plan : Plan) (service : Service) (lanes : List Lane) (epoch lane incarnation : ℕ) (any : AnyFunction) (packets : List Taken) (stop : Option ℕ) (part own : List Entry) → plan.function ≡ Balancer service → IsFunctionOf plan.function (slice_get plan.epochs epoch) any → packets ≡ packets_on lanes lane → own ≡ counted (has_stopped stop part) part → IsFollowed (lb_machine service) (lb_begun plan service lanes epoch lane incarnation) part → IsFollowed (machine_of (λ flight. lb_asks flight) (any_goes any)) (begun_of (any_begins any incarnation) packets) own
+pub followed_any : (plan : Plan) (service : Service) (lanes : List Lane) (epoch lane incarnation : ℕ) (any : AnyFunction) (packets : List Taken) (stop : Option ℕ) (part own : List Entry) → plan.function ≡ Balancer service → IsFunctionOf plan.function (slice_get plan.epochs epoch) any → packets ≡ packets_on lanes lane → own ≡ counted (has_stopped stop part) part → IsFollowed (lb_machine service) (lb_begun plan service lanes epoch lane incarnation) part → IsFollowed (machine_of (any_behaviour any)) (begun_of ((any_behaviour any).begins incarnation) packets) own
 followed_any plan service lanes epoch lane incarnation any packets stop part own is of there count h =
-    subst (λ m. IsFollowed m (begun_of (any_begins any incarnation) packets) own) (machine_any plan.function service (slice_get plan.epochs epoch) any is of)
+    subst (λ m. IsFollowed m (begun_of ((any_behaviour any).begins incarnation) packets) own) (machine_any plan.function service (slice_get plan.epochs epoch) any is of)
     (subst (λ b. IsFollowed (lb_machine service) b own) (begun_any plan service lanes epoch lane incarnation any packets is of there)
     (subst (IsFollowed (lb_machine service) (lb_begun plan service lanes epoch lane incarnation)) (sym count)
     (followed_counted (lb_machine service) (lb_begun plan service lanes epoch lane incarnation) part (has_stopped stop part) h)))
@@ -90,7 +90,7 @@ taken_other share lane n e =
 -- Where a share's verdicts are laid over its lane's row, each of its packets has its own, and the others have what they had.
 pub given_rows : (plan : Plan) (service : Service) (lanes : List Lane) (incarnation end : ℕ) (share : Share) (part own : List Entry) (any : AnyFunction) (packets : List Taken) (f : ℕ → ℕ → Verdict) (table : List (Vec Verdict Global)) (old new : Vec Verdict Global) (verdicts : List Verdict)
     → plan.function ≡ Balancer service → IsFunctionOf plan.function (slice_get plan.epochs share.epoch) any → packets ≡ packets_on lanes share.instance.lane → own ≡ counted (has_stopped share.instance.stop part) part → end ≡ share.at + share.taken
-    → verdicts ≡ map (λ number. verdict_at (stand_in (machine_of (λ flight. lb_asks flight) (any_goes any)) (begun_of (any_begins any incarnation) packets) own number)) (range_with_len share.at (end - share.at))
+    → verdicts ≡ map (λ number. verdict_at (stand_in (machine_of (any_behaviour any)) (begun_of ((any_behaviour any).begins incarnation) packets) own number)) (range_with_len share.at (end - share.at))
     → share.at + share.taken ≤ length (packets_on lanes share.instance.lane) → share.instance.lane < length table → old ≡ get_or table share.instance.lane old
     → new.items ≡ take share.at old.items ++ (verdicts ++ drop (share.at + length verdicts) old.items)
     → lists table ≡ rows_from f 0 (map (λ (lane : Lane). length lane.packets) lanes)
@@ -98,7 +98,7 @@ pub given_rows : (plan : Plan) (service : Service) (lanes : List Lane) (incarnat
 given_rows plan service lanes incarnation end share part own any packets f table old new verdicts is of there count last shown inside l at over are =
     let lane : ℕ = share.instance.lane in
     let g : ℕ → ℕ → Verdict = λ lane number. if has_taken share lane number then lb_shown plan service lanes incarnation share part number else f lane number in
-    let h : ℕ → Verdict = λ number. verdict_at (stand_in (machine_of (λ flight. lb_asks flight) (any_goes any)) (begun_of (any_begins any incarnation) packets) own number) in
+    let h : ℕ → Verdict = λ number. verdict_at (stand_in (machine_of (any_behaviour any)) (begun_of ((any_behaviour any).begins incarnation) packets) own number) in
     let z : 0 + lane ≡ lane = omega arith in
     let n : slice_index (map (λ (lane : Lane). length lane.packets) lanes) lane ≡ length (packets_on lanes lane) = lane_count lanes lane in
     let t : end - share.at ≡ share.taken = omega arith in
@@ -109,8 +109,8 @@ given_rows plan service lanes incarnation end share part own any packets f table
     ∙ ap (λ k. map (f lane) (range_with_len 0 k)) n)) in
     let own_is : (m : ℕ) → h m ≡ lb_shown plan service lanes incarnation share part m = λ m.
     sym (ap (λ b. verdict_at (stand_in (lb_machine service) b (counted (has_stopped share.instance.stop part) part) m)) (begun_any plan service lanes share.epoch lane incarnation any packets is of there)
-    ∙ (ap (λ k. verdict_at (stand_in k (begun_of (any_begins any incarnation) packets) (counted (has_stopped share.instance.stop part) part) m)) (machine_any plan.function service (slice_get plan.epochs share.epoch) any is of)
-    ∙ ap (λ es. verdict_at (stand_in (machine_of (λ flight. lb_asks flight) (any_goes any)) (begun_of (any_begins any incarnation) packets) es m)) (sym count))) in
+    ∙ (ap (λ k. verdict_at (stand_in k (begun_of ((any_behaviour any).begins incarnation) packets) (counted (has_stopped share.instance.stop part) part) m)) (machine_any plan.function service (slice_get plan.epochs share.epoch) any is of)
+    ∙ ap (λ es. verdict_at (stand_in (machine_of (any_behaviour any)) (begun_of ((any_behaviour any).begins incarnation) packets) es m)) (sym count))) in
     let items : new.items ≡ map (g lane) (range_with_len 0 (length (packets_on lanes lane))) =
     over ∙ laid (f lane) (g lane) h (length (packets_on lanes lane)) share.at share.taken old.items verdicts row (shown ∙ ap (λ k. map h (range_with_len share.at k)) t) inside
     (λ m from upto. own_is m ∙ sym (cond-true (has_taken share lane m) (lb_shown plan service lanes incarnation share part m) (f lane m) (taken_true share lane m refl from upto)))

@@ -16,7 +16,7 @@ pub use Rattle.slnf_flight.proofs.Entries.{part_of-append, part_of-own, part_of-
 -- What an actor took, in batches of one packet.
 pub use Rattle.slnf_flight.proofs.Stopping.{offers_until_is, length_ones, has_item, has_no_item, counted_front, taken_by_stop}
 -- The setting of a balancer's plan.
-pub use Rattle.slnf_flight.proofs.PlanSettings.{all_at, actors_are, lane_count, function_begins, function_goes, begins_at, of_balancer, era_there, base_of-next}
+pub use Rattle.slnf_flight.proofs.PlanSettings.{all_at, actors_are, lane_count, function_begins, function_asks, function_goes, begins_at, of_balancer, era_there, base_of-next}
 pub use Rattle.slnf_flight.proofs.Whole.{few_each}
 -- Vectors of vectors, as lists by number.
 pub use Rattle.slnf_flight.proofs.Tables.{empty_more, at_same, at_other, at_there, added}

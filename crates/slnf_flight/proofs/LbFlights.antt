@@ -14,12 +14,12 @@ use Rattle.slnf_access.specs.declared.functions.Start.TheVariants.{Go as StartGo
 use Rattle.slnf_access.specs.Machines.{Stand, Flies, Ends, stand_of_start}
 use Rattle.slnf_plan.specs.declared.plan.Plan.{Plan}
 use Rattle.slnf_plan.specs.declared.plan.Epoch.{Epoch}
-use Rattle.slnf_keys.specs.Layout.{IsPair}
+use Rattle.slnf_base.specs.Ranges.{IsPair}
 use Rattle.slnf_lb.specs.declared.flights.LbState.TheVariants.{Forward, Return}
 use Rattle.slnf_lb.specs.Flight.{Flying}
 use Rattle.slnf_lb.specs.Machine.{is_forward, is_return, choice_of, lb_begins}
 use Rattle.slnf_lb.specs.Kept.{IsFlight}
-use Rattle.slnf_lb.specs.Ranges.{is_pair}
+use Rattle.slnf_base.specs.Ranges.{is_pair}
 use Rattle.slnf_flight.specs.declared.lanes.Lane.{Lane}
 use Rattle.slnf_flight.specs.declared.lanes.Taken.{Taken}
 use Rattle.slnf_flight.specs.declared.lanes.Taken.TheVariants.{Seen, Bad}

@@ -17,11 +17,11 @@ use Rattle.slnf_plan.specs.declared.plan.Epoch.{Epoch}
 use Rattle.slnf_plan.specs.declared.plan.Plan.{Plan}
 use Rattle.slnf_plan.specs.Ranges.{is_instance, has_instances, has_sweep, sweep_count}
 use Rattle.slnf_lb.specs.Flight.{Flying}
-use Rattle.slnf_lb.specs.Machine.{lb_begins, lb_goes}
+use Rattle.slnf_lb.specs.Machine.{lb_begins, lb_asks, lb_goes}
 use Rattle.slnf_flight.specs.declared.functions.AnyFunction.{AnyFunction}
 use Rattle.slnf_flight.specs.declared.functions.AnyFunction.TheVariants.{Balancer as AnyBalancer}
 use Rattle.slnf_flight.specs.declared.lanes.Lane.{Lane}
-use Rattle.slnf_flight.specs.Functions.{any_begins, any_goes, IsBalancer, IsFunctionOf}
+use Rattle.slnf_flight.specs.Functions.{any_behaviour, IsBalancer, IsFunctionOf}
 use Rattle.slnf_flight.specs.Lanes.{packets_on}
 use Rattle.slnf_flight.specs.Setting.{Era, era_of, base_of}
 use Rattle.slnf_flight.specs.Shares.{lb_begun}
@@ -109,12 +109,15 @@ packet_is (first ∷ lanes) zero number = refl
 packet_is (first ∷ lanes) (suc lane) number = packet_is lanes lane number
 
 -- the balancer of an epoch
-pub function_begins : (function : FunctionPlan) (service : Service) (epoch : Option Epoch) (any : AnyFunction) (incarnation number : ℕ) → function ≡ Balancer service → IsFunctionOf function epoch any → lb_begins service (active_in service epoch) incarnation number ≡ any_begins any incarnation number
+pub function_begins : (function : FunctionPlan) (service : Service) (epoch : Option Epoch) (any : AnyFunction) (incarnation number : ℕ) → function ≡ Balancer service → IsFunctionOf function epoch any → lb_begins service (active_in service epoch) incarnation number ≡ (any_behaviour any).begins incarnation number
 function_begins function service epoch (AnyBalancer f) incarnation number is h =
     let k : (f.service ≡ service) × (f.active ≡ active_in service epoch) = subst (λ p. IsFunctionOf p epoch (AnyBalancer f)) is h in
     ap (λ active. lb_begins service active incarnation number) (sym k.1) ∙ ap (λ (t : Service). lb_begins t f.active incarnation number) (sym k.0)
 
-pub function_goes : (function : FunctionPlan) (service : Service) (epoch : Option Epoch) (any : AnyFunction) (flight : Flying) (reply : Reply) → function ≡ Balancer service → IsFunctionOf function epoch any → lb_goes service flight reply ≡ any_goes any flight reply
+pub function_asks : (any : AnyFunction) (flight : Flying) → lb_asks flight ≡ (any_behaviour any).asks flight
+function_asks (AnyBalancer f) flight = refl
+
+pub function_goes : (function : FunctionPlan) (service : Service) (epoch : Option Epoch) (any : AnyFunction) (flight : Flying) (reply : Reply) → function ≡ Balancer service → IsFunctionOf function epoch any → lb_goes service flight reply ≡ (any_behaviour any).goes flight reply
 function_goes function service epoch (AnyBalancer f) flight reply is h =
     let k : (f.service ≡ service) × (f.active ≡ active_in service epoch) = subst (λ p. IsFunctionOf p epoch (AnyBalancer f)) is h in
     ap (λ (t : Service). lb_goes t flight reply) (sym k.0)

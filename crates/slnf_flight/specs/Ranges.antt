@@ -2,7 +2,7 @@
 use Rattle.std.specs.Prelude.{Bool, true, ◌&&◌}
 use Rattle.slnf_flight.specs.declared.lanes.Taken.{Taken}
 use Rattle.slnf_flight.specs.declared.lanes.Taken.TheVariants.{Seen, Bad}
-use Rattle.slnf_lb.specs.Ranges.{is_pair}
+use Rattle.slnf_base.specs.Ranges.{is_pair}
 
 -- the pairs of a packet that is seen have addresses of 32 bits and ports of 16
 abbrev pub is_taken : Taken → Bool

@@ -2,12 +2,9 @@
 use Rattle.std.specs.Prelude.{◌≡◌, ℕ, Option, Some, None, List, slice_get}
 use Rattle.slnf_base.specs.declared.packets.Packet.{Packet}
 use Rattle.slnf_access.specs.declared.requests.Entry.{Entry}
-use Rattle.slnf_access.specs.declared.requests.Request.{Request}
-use Rattle.slnf_access.specs.declared.requests.Reply.{Reply}
 use Rattle.slnf_access.specs.declared.functions.Start.{Start}
-use Rattle.slnf_access.specs.declared.functions.Step.{Step}
 use Rattle.slnf_access.specs.Map.{CanReply}
-use Rattle.slnf_access.specs.Machines.{Machine, Stand, Flies, Ends, stand_after, stand_of_step, IsPath}
+use Rattle.slnf_access.specs.Machines.{Machine, Stand, Flies, Ends, stand_after, IsPath}
 use Rattle.slnf_flight.specs.declared.lanes.Taken.{Taken}
 use Rattle.slnf_flight.specs.declared.standings.Standing.{Standing}
 use Rattle.slnf_flight.specs.Parts.{of_item}
@@ -22,14 +19,6 @@ flight_at (Ends verdict) = None
 -- where a packet stands, as the code keeps it
 abbrev pub standing_at : {F : Type 0} → Stand F → Standing F
 standing_at stand = record { flight = flight_at stand; verdict = verdict_at stand }
-
--- the machine of a function that asks and goes on so
-abbrev pub machine_of : {F : Type 0} → (F → Request) → (F → Reply → Step F) → Machine F
-machine_of asks goes = record {
-  asks = asks;
-  goes = λ flight reply. stand_of_step (goes flight reply);
-  decided = λ flight. None;
-}
 
 -- how the packet with this number of these begins
 abbrev pub begun_of : {F : Type 0} → (ℕ → Packet → Start F) → List Taken → ℕ → Stand F

@@ -2,7 +2,7 @@ ghost use Rattle.std.specs.Prelude.{◌≡◌, ◌<◌, length, IfOk, slice_get}
 ghost use Rattle.slnf_flight.specs.Functions.{IsBalancer, IsFunctionOf};
 
 use slnf_access::{Function, Reply, Request, Start, Step};
-use slnf_base::{NoMemory, Packet, Pair, Row, Service};
+use slnf_base::{NoMemory, Packet, Pair, Row, Service, know_pair};
 use slnf_lb::{LbFlight, LbFunction};
 use slnf_plan::{FunctionPlan, Plan};
 use std::alloc::Global;
@@ -14,19 +14,11 @@ pub enum AnyFunction {
 }
 
 impl Function for AnyFunction {
-    ghost use Rattle.std.specs.Prelude.{None};
-    ghost use Rattle.slnf_flight.specs.Functions.{any_begins, any_goes, any_refuses};
-    ghost use Rattle.slnf_lb.specs.Machine.{lb_asks};
+    ghost use Rattle.slnf_flight.specs.Functions.{any_behaviour, any_refuses};
 
     type Flight = LbFlight;
 
-    ghost begins = { any_begins };
-
-    ghost asks = { λ function flight. lb_asks flight };
-
-    ghost goes = { any_goes };
-
-    ghost decided = { λ function flight. None };
+    ghost behaviour = { any_behaviour };
 
     fn start(&self, incarnation: u64, number: u64, packet: &Packet) -> Start<LbFlight> {
         match self {
@@ -70,7 +62,7 @@ impl AnyFunction {
 ghost use Rattle.slnf_flight.specs.PlanSetting.{backends_at};
 ghost use Rattle.std.specs.Prelude.{nat_lt, IsTrue};
 ghost use Rattle.std.specs.List.{list_all};
-ghost use Rattle.slnf_lb.specs.Ranges.{is_pair};
+ghost use Rattle.slnf_base.specs.Ranges.{is_pair};
 
 /// The service, copied.
 fn copy_of(alloc: Global, service: &Service) -> Result<Service, NoMemory>
@@ -107,11 +99,6 @@ fn backend_at(backends: &[Pair], place: usize) -> Pair
     ensures pair { IsTrue (is_pair result) }
 {
     let backend = backends[place];
-    know_range(backend);
+    know_pair(backend);
     backend
 }
-
-/// A pair has its ranges.
-fn know_range(pair: Pair)
-    ensures { IsTrue (is_pair pair) }
-{}

@@ -25,7 +25,7 @@ pub fn begin<F: Function>(
 ) -> Start<F::Flight>
     requires incarnation { incarnation < 2 ^ 32 }
     requires number { number < 2 ^ 32 }
-    ensures { stand_of_start result ≡ begins_with (F.begins function.now incarnation number) (Some taken.now) }
+    ensures { stand_of_start result ≡ begins_with ((F.behaviour function.now).begins incarnation number) (Some taken.now) }
 {
     match taken {
         Taken::Seen(packet) => function.start(incarnation, number as u64, packet),

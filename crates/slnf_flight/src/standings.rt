@@ -1,9 +1,9 @@
 ghost use Rattle.std.specs.Prelude.{◌≡◌, ◌-◌, ◌^◌, ◌<◌, ◌≤◌, Some, length, map, IfOk};
 ghost use Rattle.std.specs.List.{range_with_len};
-ghost use Rattle.slnf_access.specs.Machines.{Stand, Flies, Ends, stand_of_start, stand_of_step, stand_step};
+ghost use Rattle.slnf_access.specs.Machines.{machine_of, Stand, Flies, Ends, stand_of_start, stand_of_step, stand_step};
 ghost use Rattle.slnf_access.specs.Map.{CanReply};
 ghost use Rattle.slnf_access.specs.declared.requests.Entry.{Entry};
-ghost use Rattle.slnf_flight.specs.Standings.{standing_at, machine_of, begun_of, stand_in, IsFollowed};
+ghost use Rattle.slnf_flight.specs.Standings.{standing_at, begun_of, stand_in, IsFollowed};
 ghost use Rattle.slnf_flight.specs.Verdicts.{verdict_at};
 
 use crate::lanes::Taken;
@@ -61,9 +61,9 @@ fn gone<T: Drop>(step: Step<T>) -> Standing<T>
 
 /// Lets a packet that is under way go on by the reply to its access.
 fn answer<F: Function>(function: &F, standing: &mut Standing<F::Flight>, reply: Reply)
-    requires { (flight : F.Flight) → standing.old.flight ≡ Some flight → CanReply (F.asks function.now flight) reply }
+    requires { (flight : F.Flight) → standing.old.flight ≡ Some flight → CanReply ((F.behaviour function.now).asks flight) reply }
     ensures { (stand : Stand F.Flight) (e : Entry) → standing.old ≡ standing_at stand → e.reply ≡ reply
-        → standing.new ≡ standing_at (stand_step (machine_of (F.asks function.now) (F.goes function.now)) stand e) }
+        → standing.new ≡ standing_at (stand_step (machine_of (F.behaviour function.now)) stand e) }
 {
     if let Some(flight) = standing.flight.take() {
         *standing = gone(function.after(flight, reply));
@@ -83,7 +83,7 @@ fn begin_all<F: Function>(
     requires few { length packets.now < 2 ^ 32 }
     requires inside { end ≤ length packets.now }
     ensures { IfOk result (λ standings. standings.items
-        ≡ map (λ number. standing_at (begun_of (F.begins function.now incarnation) packets.now number)) (range_with_len at (end - at))) }
+        ≡ map (λ number. standing_at (begun_of ((F.behaviour function.now).begins incarnation) packets.now number)) (range_with_len at (end - at))) }
 {
     let mut standings = Vec::new(alloc);
     for number in at..end {
@@ -106,9 +106,9 @@ fn stand_all<F: Function>(
     requires few { length packets.now < 2 ^ 32 }
     requires forward { at ≤ end }
     requires inside { end ≤ length packets.now }
-    requires followed { IsFollowed (machine_of (F.asks function.now) (F.goes function.now)) (begun_of (F.begins function.now incarnation) packets.now) entries.now }
+    requires followed { IsFollowed (machine_of (F.behaviour function.now)) (begun_of ((F.behaviour function.now).begins incarnation) packets.now) entries.now }
     ensures { IfOk result (λ standings. standings.items
-        ≡ map (λ number. standing_at (stand_in (machine_of (F.asks function.now) (F.goes function.now)) (begun_of (F.begins function.now incarnation) packets.now) entries.now number)) (range_with_len at (end - at))) }
+        ≡ map (λ number. standing_at (stand_in (machine_of (F.behaviour function.now)) (begun_of ((F.behaviour function.now).begins incarnation) packets.now) entries.now number)) (range_with_len at (end - at))) }
 {
     let mut standings = begin_all(alloc, function, incarnation, packets, at, end)?;
     for entry in entries {
@@ -146,9 +146,9 @@ pub(crate) fn verdicts_by<F: Function>(
     requires few { length packets.now < 2 ^ 32 }
     requires forward { at ≤ end }
     requires inside { end ≤ length packets.now }
-    requires followed { IsFollowed (machine_of (F.asks function.now) (F.goes function.now)) (begun_of (F.begins function.now incarnation) packets.now) entries.now }
+    requires followed { IsFollowed (machine_of (F.behaviour function.now)) (begun_of ((F.behaviour function.now).begins incarnation) packets.now) entries.now }
     ensures { IfOk result (λ verdicts. verdicts.items
-        ≡ map (λ number. verdict_at (stand_in (machine_of (F.asks function.now) (F.goes function.now)) (begun_of (F.begins function.now incarnation) packets.now) entries.now number)) (range_with_len at (end - at))) }
+        ≡ map (λ number. verdict_at (stand_in (machine_of (F.behaviour function.now)) (begun_of ((F.behaviour function.now).begins incarnation) packets.now) entries.now number)) (range_with_len at (end - at))) }
 {
     let standings = stand_all(alloc, function, incarnation, packets, at, end, entries)?;
     let verdicts = verdicts_in(alloc, standings.as_slice())?;

@@ -8,7 +8,7 @@ ghost use Rattle.slnf_access.specs.Machines.{IsPath};
 ghost use Rattle.slnf_plan.specs.declared.plan.Plan.{Plan};
 ghost use Rattle.slnf_lb.specs.Machine.{lb_machine};
 ghost use Rattle.slnf_lb.specs.Box.{IsSameMap};
-ghost use Rattle.slnf_lb.specs.Ranges.{is_pair};
+ghost use Rattle.slnf_base.specs.Ranges.{is_pair};
 ghost use Rattle.slnf_flight.specs.declared.lanes.Lane.{Lane};
 ghost use Rattle.slnf_flight.specs.Setting.{Setting};
 ghost use Rattle.slnf_flight.specs.Parts.{part_of, of_item};

@@ -6,7 +6,8 @@ use Rattle.slnf_base.specs.declared.addresses.Pair.{Pair}
 use Rattle.slnf_base.specs.declared.packets.Proto.{Proto}
 use Rattle.slnf_keys.specs.declared.layout.Kind.{Kind}
 use Rattle.slnf_keys.specs.declared.layout.Parts.{Parts}
-use Rattle.slnf_keys.specs.Layout.{IsPair, pair_number, pair_of, single_number, single_of}
+use Rattle.slnf_base.specs.Ranges.{IsPair}
+use Rattle.slnf_keys.specs.Layout.{pair_number, pair_of, single_number, single_of}
 use Rattle.slnf_keys.proofs.Layouts.{single_of-single_number, single_number-single_of, pair_of-pair_number, pair_number-pair_of}
 
 -- each value's number is read as it, and what is read of a number has that number

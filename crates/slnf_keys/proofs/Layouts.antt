@@ -7,10 +7,11 @@ use Rattle.std.proofs.lemmas.Bool.Decides.{nat_tests}
 use Rattle.slnf_base.specs.declared.addresses.Pair.{Pair}
 use Rattle.slnf_base.specs.declared.packets.Proto.{Proto}
 use Rattle.slnf_base.specs.declared.packets.Proto.TheVariants.{Tcp, Udp}
-use Rattle.slnf_base.specs.Numbers.{proto_number}
+use Rattle.slnf_base.specs.Numbers.{proto_number, proto_with}
 use Rattle.slnf_keys.specs.declared.layout.Kind.{Kind}
 use Rattle.slnf_keys.specs.declared.layout.Parts.{Parts}
-use Rattle.slnf_keys.specs.Layout.{IsPair, pair_number, pair_at, pair_of, kind_tag, key_number, single_number, proto_of, parts_of, single_of}
+use Rattle.slnf_base.specs.Ranges.{IsPair}
+use Rattle.slnf_keys.specs.Layout.{pair_number, pair_at, pair_of, kind_tag, key_number, single_number, parts_of, single_of}
 
 pair : ℕ → ℕ → Pair
 pair a p = record { addr = a; port = p }
@@ -56,13 +57,13 @@ proto_small : (p : Proto) → proto_number p < 2 ^ 8
 proto_small Tcp = omega arith
 proto_small Udp = omega arith
 
-pub proto_of-proto_number : (p : Proto) → proto_of (proto_number p) ≡ Some p
-proto_of-proto_number Tcp = refl
-proto_of-proto_number Udp = refl
+pub proto_with-proto_number : (p : Proto) → proto_with (proto_number p) ≡ Some p
+proto_with-proto_number Tcp = refl
+proto_with-proto_number Udp = refl
 
-pub proto_number-proto_of : (n : ℕ) (p : Proto) → proto_of n ≡ Some p → proto_number p ≡ n
-proto_number-proto_of n Tcp h = grind (arith, nat_tests)
-proto_number-proto_of n Udp h = grind (arith, nat_tests)
+pub proto_number-proto_with : (n : ℕ) (p : Proto) → proto_with n ≡ Some p → proto_number p ≡ n
+proto_number-proto_with n Tcp h = grind (arith, nat_tests)
+proto_number-proto_with n Udp h = grind (arith, nat_tests)
 
 -- the parts that a number has, with this protocol
 parts_with : ℕ → Proto → Parts
@@ -84,7 +85,7 @@ parts_of-key_number k p first second hf hs =
     let at = fields (kind_tag k) (proto_number p) (pair_number second) (pair_number first) small high low in
     let tag : (n / 2 ^ 120 == kind_tag k) ≡ true = eq-eqb _ _ at.tag in
     let zeros : (n / 2 ^ 96 % 2 ^ 16 == 0) ≡ true = eq-eqb _ _ at.zeros in
-    let proto : proto_of (n / 2 ^ 112 % 2 ^ 8) ≡ Some p = ap proto_of at.proto ∙ proto_of-proto_number p in
+    let proto : proto_with (n / 2 ^ 112 % 2 ^ 8) ≡ Some p = ap proto_with at.proto ∙ proto_with-proto_number p in
     rw (tag, zeros, proto)
     (ap (λ (x : Parts). Some x) (same_Parts _ _ refl (ap pair_at at.first ∙ pair_at-low _ first hf) (ap pair_at at.second ∙ pair_at-low _ second hs)))
 
@@ -110,7 +111,7 @@ key_number-parts_of k n r h =
     let tests = and_both _ _ read.0 in
     let tag : n / 2 ^ 120 ≡ kind_tag k = eqb-true _ _ tests.0 in
     let zeros : n / 2 ^ 96 % 2 ^ 16 ≡ 0 = eqb-true _ _ tests.1 in
-    let proto : proto_number r.proto ≡ n / 2 ^ 112 % 2 ^ 8 = proto_number-proto_of _ _ read.1 in
+    let proto : proto_number r.proto ≡ n / 2 ^ 112 % 2 ^ 8 = proto_number-proto_with _ _ read.1 in
     let first : r.first ≡ pair_at n = ap (λ (x : Parts). x.first) read.2 in
     let second : r.second ≡ pair_at (n / 2 ^ 48) = ap (λ (x : Parts). x.second) read.2 in
     let low : pair_number r.first ≡ n % 2 ^ 48 = ap pair_number first ∙ pair_number-pair_at n in

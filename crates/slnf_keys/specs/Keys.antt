@@ -5,7 +5,8 @@ use Rattle.slnf_keys.specs.declared.keys.PortKey.{PortKey}
 use Rattle.slnf_keys.specs.declared.keys.ConnKey.{ConnKey}
 use Rattle.slnf_keys.specs.declared.keys.PinKey.{PinKey}
 use Rattle.slnf_keys.specs.declared.layout.Kind.TheVariants.{Flow, Port, Conn, Pin}
-use Rattle.slnf_keys.specs.Layout.{key_number, single_number, parts_of, single_of, IsPair}
+use Rattle.slnf_base.specs.Ranges.{IsPair}
+use Rattle.slnf_keys.specs.Layout.{key_number, single_number, parts_of, single_of}
 
 -- the number of a flow's key: its inside pair
 unfoldable pub flow_key_number : FlowKey → ℕ

@@ -1,17 +1,11 @@
-use Rattle.std.specs.Prelude.{ℕ, ◌+◌, ◌*◌, ◌/◌, ◌%◌, ◌^◌, ◌<◌, ◌==◌, nat_lt, ◌&&◌, if◌then◌else◌, Option, Some, None}
+use Rattle.std.specs.Prelude.{ℕ, ◌+◌, ◌*◌, ◌/◌, ◌%◌, ◌^◌, ◌==◌, nat_lt, ◌&&◌, if◌then◌else◌, Option, Some, None}
 use Rattle.std.specs.Option.{option_map}
 use Rattle.slnf_base.specs.declared.addresses.Pair.{Pair}
 use Rattle.slnf_base.specs.declared.packets.Proto.{Proto}
-use Rattle.slnf_base.specs.declared.packets.Proto.TheVariants.{Tcp, Udp}
-use Rattle.slnf_base.specs.Numbers.{proto_number}
+use Rattle.slnf_base.specs.Numbers.{proto_number, proto_with}
 use Rattle.slnf_keys.specs.declared.layout.Kind.{Kind}
 use Rattle.slnf_keys.specs.declared.layout.Kind.TheVariants as kind
 use Rattle.slnf_keys.specs.declared.layout.Parts.{Parts}
-
--- the ranges of an address and a port
-pub record IsPair (pair : Pair) : Type 0 where
-  pub addr_fits : pair.addr < 2 ^ 32
-  pub port_fits : pair.port < 2 ^ 16
 
 -- the number of a pair: the address, and the port in the 16 bits below it
 unfoldable pub pair_number : Pair → ℕ
@@ -42,16 +36,11 @@ key_number kind proto first second =
 unfoldable pub single_number : Kind → Proto → Pair → ℕ
 single_number kind proto pair = key_number kind proto pair (record { addr = 0; port = 0 })
 
--- the protocol with this number
-abbrev pub proto_of : ℕ → Option Proto
-proto_of number =
-    if number == proto_number Tcp then Some Tcp else (if number == proto_number Udp then Some Udp else None)
-
 -- the parts of a key's number, where its tag and its zeros stand
 unfoldable pub parts_of : Kind → ℕ → Option Parts
 parts_of kind number =
     if (number / 2 ^ 120 == kind_tag kind) && (number / 2 ^ 96 % 2 ^ 16 == 0)
-    then option_map (λ proto. record { proto = proto; first = pair_at number; second = pair_at (number / 2 ^ 48) }) (proto_of (number / 2 ^ 112 % 2 ^ 8))
+    then option_map (λ proto. record { proto = proto; first = pair_at number; second = pair_at (number / 2 ^ 48) }) (proto_with (number / 2 ^ 112 % 2 ^ 8))
     else None
 
 -- the parts of the number of a key with one pair

@@ -5,7 +5,8 @@ use Rattle.slnf_keys.specs.declared.values.FlowTo.{FlowTo}
 use Rattle.slnf_keys.specs.declared.values.Claim.{Claim}
 use Rattle.slnf_keys.specs.declared.values.Conn.{Conn}
 use Rattle.slnf_keys.specs.declared.values.Pin.{Pin}
-use Rattle.slnf_keys.specs.Layout.{pair_number, pair_at, pair_of, IsPair}
+use Rattle.slnf_base.specs.Ranges.{IsPair}
+use Rattle.slnf_keys.specs.Layout.{pair_number, pair_at, pair_of}
 use Rattle.slnf_keys.specs.Flag.{flag_of}
 
 -- the number of a flow's record: its outside pair

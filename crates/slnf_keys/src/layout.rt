@@ -1,5 +1,5 @@
 ghost use Rattle.std.specs.Prelude.{◌≡◌, ◌<◌, ◌^◌};
-ghost use Rattle.slnf_keys.specs.Layout.{kind_tag, pair_number, pair_at, pair_of, proto_of, key_number, parts_of, single_number, single_of};
+ghost use Rattle.slnf_keys.specs.Layout.{kind_tag, pair_number, pair_at, pair_of, key_number, parts_of, single_number, single_of};
 
 use slnf_base::{Pair, Proto};
 
@@ -75,17 +75,6 @@ pub fn key_to_number(kind: Kind, proto: Proto, first: Pair, second: Pair) -> u12
         + pair_to_number(first)
 }
 
-/// The protocol with this number.
-fn proto_from_number(number: u8) -> Option<Proto>
-    ensures { result ≡ proto_of number }
-{
-    match number {
-        6 => Some(Proto::Tcp),
-        17 => Some(Proto::Udp),
-        _ => None,
-    }
-}
-
 /// The parts of a number of this kind, and `None` where another tag, another protocol or something else than
 /// the zeros stands.
 #[tactic(auto, unfolding(crate::specs::Layout::parts_of))]
@@ -95,7 +84,7 @@ pub fn key_from_number(kind: Kind, number: u128) -> Option<Parts>
     if number >> 120 != u128::from(tag(kind)) || (number >> 96) % (1 << 16) != 0 {
         return None;
     }
-    let proto = proto_from_number(((number >> 112) % (1 << 8)) as u8)?;
+    let proto = Proto::from_number(((number >> 112) % (1 << 8)) as u8)?;
     Some(Parts {
         proto,
         first: pair_from_number(number),

@@ -15,7 +15,7 @@ use Rattle.slnf_access.specs.declared.requests.Entry.{Entry}
 use Rattle.slnf_access.specs.declared.requests.Request.{Request}
 use Rattle.slnf_access.specs.declared.requests.Request.TheVariants.{Read, PutIfAbsent}
 use Rattle.slnf_access.specs.Map.{key_of, cell_after, cell_step, Cells, map_after}
-use Rattle.slnf_keys.specs.Layout.{IsPair}
+use Rattle.slnf_base.specs.Ranges.{IsPair}
 use Rattle.std.specs.Option.{option_map}
 use Rattle.slnf_keys.specs.declared.keys.PinKey.{PinKey}
 use Rattle.slnf_keys.specs.declared.values.Pin.{Pin}

@@ -20,7 +20,7 @@ use Rattle.slnf_access.specs.Map.{key_of, reply_to, Cells, map_after}
 use Rattle.slnf_access.specs.declared.functions.Step.{Step}
 use Rattle.slnf_access.specs.declared.functions.Step.TheVariants.{Over as StepOver}
 use Rattle.slnf_access.specs.Machines.{Stand, Flies, Ends, stand_of_step, stand_after}
-use Rattle.slnf_keys.specs.Layout.{IsPair}
+use Rattle.slnf_base.specs.Ranges.{IsPair}
 use Rattle.slnf_keys.specs.declared.values.Pin.{Pin}
 use Rattle.slnf_keys.specs.Keys.{pin_key_number}
 use Rattle.slnf_keys.specs.Values.{pin_of}

@@ -12,7 +12,7 @@ use Rattle.slnf_base.specs.declared.plans.Service.{Service}
 use Rattle.slnf_base.specs.Equal.{is_same_pair, is_same_proto}
 use Rattle.slnf_access.specs.declared.requests.Held.{Held}
 use Rattle.slnf_access.specs.Map.{Cells}
-use Rattle.slnf_keys.specs.Layout.{IsPair}
+use Rattle.slnf_base.specs.Ranges.{IsPair}
 use Rattle.slnf_keys.specs.Keys.{pin_key_number}
 use Rattle.slnf_keys.specs.Values.{pin_of}
 use Rattle.slnf_lb.specs.Machine.{is_forward, is_return}

@@ -5,7 +5,7 @@ use Rattle.slnf_base.specs.declared.addresses.Pair.{Pair}
 use Rattle.slnf_base.specs.declared.plans.Service.{Service}
 use Rattle.slnf_access.specs.Map.{Cells}
 use Rattle.slnf_access.specs.Machines.{Stand, Flies, Ends}
-use Rattle.slnf_keys.specs.Layout.{IsPair}
+use Rattle.slnf_base.specs.Ranges.{IsPair}
 use Rattle.slnf_lb.specs.declared.flights.LbState.{LbState}
 use Rattle.slnf_lb.specs.declared.flights.LbState.TheVariants.{Forward, Put, Return}
 use Rattle.slnf_lb.specs.Flight.{Flying}

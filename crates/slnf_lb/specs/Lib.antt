@@ -1,6 +1,5 @@
 pub mod Flight
 pub mod Machine
 pub mod Box
-pub mod Ranges
 pub mod Refuses
 pub mod Kept

@@ -15,7 +15,7 @@ use Rattle.slnf_access.specs.declared.requests.Request.{Request}
 use Rattle.slnf_access.specs.declared.requests.Request.TheVariants.{Read, PutIfAbsent}
 use Rattle.slnf_access.specs.declared.requests.Reply.{Reply}
 use Rattle.slnf_access.specs.declared.requests.Reply.TheVariants.{Done, Found, Absent}
-use Rattle.slnf_access.specs.Machines.{Machine, stand_of_step}
+use Rattle.slnf_access.specs.Machines.{Behaviour, Machine, stand_of_step}
 use Rattle.slnf_access.specs.declared.functions.Start.{Start}
 use Rattle.slnf_access.specs.declared.functions.Start.TheVariants.{Go as StartGo, Over as StartOver}
 use Rattle.slnf_access.specs.declared.functions.Step.{Step}
@@ -91,6 +91,15 @@ goes_in service Return packet choice (Done version) = StepOver (Dropped NotPinne
 
 abbrev pub lb_goes : Service → Flying → Reply → Step Flying
 lb_goes service flight reply = goes_in service flight.state flight.packet flight.choice reply
+
+-- What the function does with packets, where these backends are active.
+abbrev pub lb_behaviour : Service → List Pair → Behaviour Flying
+lb_behaviour service active = record {
+  begins = lb_begins service active;
+  asks = lb_asks;
+  goes = lb_goes service;
+  decided = λ flight. None;
+}
 
 -- The machine: it decides nothing before it ends.
 abbrev pub lb_machine : Service → Machine Flying

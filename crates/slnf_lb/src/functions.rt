@@ -1,7 +1,7 @@
 ghost use Rattle.std.specs.Prelude.{◌≡◌, ◌<◌, ◌≤◌, ◌&&◌, length, IsTrue, slice_index_or};
 ghost use Rattle.std.specs.List.{list_any, list_all};
 ghost use Rattle.slnf_base.specs.Equal.{is_same_pair, is_same_proto};
-ghost use Rattle.slnf_lb.specs.Ranges.{is_pair};
+ghost use Rattle.slnf_base.specs.Ranges.{is_pair};
 
 use crate::flights::{LbFlight, LbState};
 use slnf_access::{Function, Key, Reply, Request, Start, Step, Value};
@@ -94,19 +94,12 @@ fn returned(service: &Service, packet: &Packet, value: Value) -> Step<LbFlight>
 }
 
 impl Function for LbFunction {
-    ghost use Rattle.std.specs.Prelude.{None};
-    ghost use Rattle.slnf_lb.specs.Machine.{lb_begins, lb_asks, lb_goes};
+    ghost use Rattle.slnf_lb.specs.Machine.{lb_behaviour};
     ghost use Rattle.slnf_lb.specs.Refuses.{lb_refuses};
 
     type Flight = LbFlight;
 
-    ghost begins = { λ function incarnation number packet. lb_begins function.service function.active incarnation number packet };
-
-    ghost asks = { λ function flight. lb_asks flight };
-
-    ghost goes = { λ function flight reply. lb_goes function.service flight reply };
-
-    ghost decided = { λ function flight. None };
+    ghost behaviour = { λ function. lb_behaviour function.service function.active };
 
     fn start(&self, incarnation: u64, number: u64, packet: &Packet) -> Start<LbFlight> {
         let packet = *packet;

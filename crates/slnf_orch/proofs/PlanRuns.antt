@@ -9,36 +9,35 @@ use Rattle.slnf_plan.specs.declared.plan.Epoch.{Epoch}
 use Rattle.slnf_plan.specs.declared.plan.Plan.{Plan}
 use Rattle.slnf_plan.specs.Ranges.{has_lanes_apart, are_distinct}
 use Rattle.slnf_lb.specs.Flight.{Flying}
-use Rattle.slnf_lb.specs.Machine.{lb_asks}
 use Rattle.slnf_flight.specs.declared.functions.AnyFunction.{AnyFunction}
 use Rattle.slnf_flight.specs.declared.lanes.Lane.{Lane}
-use Rattle.slnf_flight.specs.Functions.{any_begins, any_goes, IsFunctionOf}
+use Rattle.slnf_flight.specs.Functions.{any_behaviour, IsFunctionOf}
 use Rattle.slnf_flight.specs.Lanes.{packets_on}
 use Rattle.slnf_flight.specs.Setting.{Era, Setting, base_of}
 use Rattle.slnf_flight.specs.PlanSetting.{instance_actor, era_of_epoch, eras_of, begins_with, lb_setting}
 use Rattle.slnf_base.specs.declared.packets.Verdict.{Verdict}
 use Rattle.slnf_access.specs.declared.requests.Entry.{Entry}
 use Rattle.slnf_flight.specs.Parts.{part_of}
-use Rattle.slnf_flight.proofs.Laws.{all_at, actors_are, lane_count, function_begins, function_goes, begins_at, era_there}
+use Rattle.slnf_flight.proofs.Laws.{all_at, actors_are, lane_count, function_begins, function_asks, function_goes, begins_at, era_there}
 use Rattle.slnf_orch.specs.Passing.{lane_number, AreRunBy, HasPassed, IsUnderWay}
 use Rattle.slnf_orch.proofs.AtWork.{apart_actors}
 use Rattle.slnf_orch.proofs.UnderWay.{under_way_next}
 
 -- how a packet of an instance begins
-begins_is : (plan : Plan) (service : Service) (lanes : List Lane) (number k item : ℕ) (epoch : Epoch) (i : InstancePlan) (any : AnyFunction) → plan.function ≡ Balancer service → slice_get plan.epochs number ≡ Some epoch → IsFunctionOf plan.function (slice_get plan.epochs number) any → slice_get epoch.instances k ≡ Some i → (lb_setting plan service lanes).begins (base_of (eras_of plan.epochs) number + k) item ≡ begins_with (any_begins any (base_of (eras_of plan.epochs) number + k) item) (slice_get (packets_on lanes i.lane) item)
+begins_is : (plan : Plan) (service : Service) (lanes : List Lane) (number k item : ℕ) (epoch : Epoch) (i : InstancePlan) (any : AnyFunction) → plan.function ≡ Balancer service → slice_get plan.epochs number ≡ Some epoch → IsFunctionOf plan.function (slice_get plan.epochs number) any → slice_get epoch.instances k ≡ Some i → (lb_setting plan service lanes).begins (base_of (eras_of plan.epochs) number + k) item ≡ begins_with ((any_behaviour any).begins (base_of (eras_of plan.epochs) number + k) item) (slice_get (packets_on lanes i.lane) item)
 begins_is plan service lanes number k item epoch i any is at of there =
     begins_at plan service lanes number k item epoch i is at there
     ∙ ap (λ start. begins_with start (slice_get (packets_on lanes i.lane) item)) (function_begins plan.function service (slice_get plan.epochs number) any (base_of (eras_of plan.epochs) number + k) item is of)
 
 -- the epoch's function runs each of its instances
-pub are_run_by : (plan : Plan) (service : Service) (lanes : List Lane) (number base : ℕ) (epoch : Epoch) (any : AnyFunction) → plan.function ≡ Balancer service → plan.batch ≡ 1 → slice_get plan.epochs number ≡ Some epoch → IsFunctionOf plan.function (slice_get plan.epochs number) any → base ≡ base_of (eras_of plan.epochs) number → AreRunBy (lb_setting plan service lanes) lanes (any_begins any) (λ flight. lb_asks flight) (any_goes any) base epoch.instances
+pub are_run_by : (plan : Plan) (service : Service) (lanes : List Lane) (number base : ℕ) (epoch : Epoch) (any : AnyFunction) → plan.function ≡ Balancer service → plan.batch ≡ 1 → slice_get plan.epochs number ≡ Some epoch → IsFunctionOf plan.function (slice_get plan.epochs number) any → base ≡ base_of (eras_of plan.epochs) number → AreRunBy (lb_setting plan service lanes) lanes (any_behaviour any).begins (any_behaviour any).asks (any_behaviour any).goes base epoch.instances
 are_run_by plan service lanes number base epoch any is one at of from =
-    subst (λ b. AreRunBy (lb_setting plan service lanes) lanes (any_begins any) (λ flight. lb_asks flight) (any_goes any) b epoch.instances) (sym from)
+    subst (λ b. AreRunBy (lb_setting plan service lanes) lanes (any_behaviour any).begins (any_behaviour any).asks (any_behaviour any).goes b epoch.instances) (sym from)
     (λ k i there. record {
       one = one;
       lanes = lane_count lanes i.lane;
       begun = λ item. begins_is plan service lanes number k item epoch i any is at of there;
-      asked = λ flight. refl;
+      asked = λ flight. function_asks any flight;
       gone = λ flight reply. ap stand_of_step (function_goes plan.function service (slice_get plan.epochs number) any flight reply is of);
     })
 
@@ -49,7 +48,7 @@ epoch_apart plan service number epoch is at =
     (all_at has_lanes_apart plan.epochs number epoch plan.lanes_apart at)
 
 -- an epoch of a plan that is under way passes
-pub epoch_passed : (plan : Plan) (service : Service) (lanes : List Lane) (number base : ℕ) (epoch : Epoch) (any : AnyFunction) (es fs : List Entry) (ledger after : List (List Verdict)) → plan.function ≡ Balancer service → plan.batch ≡ 1 → slice_get plan.epochs number ≡ Some epoch → IsFunctionOf plan.function (slice_get plan.epochs number) any → IsUnderWay (lb_setting plan service lanes) number base es ledger → ((s : Setting Flying) (era : Era) → s.shards ≡ plan.shards → era.actors ≡ map instance_actor epoch.instances → era.schedule ≡ epoch.schedule → AreRunBy s lanes (any_begins any) (λ flight. lb_asks flight) (any_goes any) base epoch.instances → ((i : ℕ) → base ≤ i → part_of i es ≡ []) → HasPassed s lanes base era es fs ledger after) → HasPassed (lb_setting plan service lanes) lanes base (era_of_epoch epoch) es fs ledger after
+pub epoch_passed : (plan : Plan) (service : Service) (lanes : List Lane) (number base : ℕ) (epoch : Epoch) (any : AnyFunction) (es fs : List Entry) (ledger after : List (List Verdict)) → plan.function ≡ Balancer service → plan.batch ≡ 1 → slice_get plan.epochs number ≡ Some epoch → IsFunctionOf plan.function (slice_get plan.epochs number) any → IsUnderWay (lb_setting plan service lanes) number base es ledger → ((s : Setting Flying) (era : Era) → s.shards ≡ plan.shards → era.actors ≡ map instance_actor epoch.instances → era.schedule ≡ epoch.schedule → AreRunBy s lanes (any_behaviour any).begins (any_behaviour any).asks (any_behaviour any).goes base epoch.instances → ((i : ℕ) → base ≤ i → part_of i es ≡ []) → HasPassed s lanes base era es fs ledger after) → HasPassed (lb_setting plan service lanes) lanes base (era_of_epoch epoch) es fs ledger after
 epoch_passed plan service lanes number base epoch any es fs ledger after is one at of u run =
     run (lb_setting plan service lanes) (era_of_epoch epoch) refl (actors_are plan service number epoch is at) refl
     (are_run_by plan service lanes number base epoch any is one at of u.base_is) u.fresh

@@ -29,8 +29,8 @@ fn turn_at<F: Function>(
     ensures kept { IfOk result (λ made. made ≡ false → store.new ≡ store.old) }
     ensures turned { IfOk result (λ made. (s : Setting F.Flight) (base : ℕ) (places : ℕ → ℕ) (era : Era)
         → s.shards ≡ store.old.shards
-        → AreAtWork s store.old.entries lanes.now (F.begins function.now) (F.asks function.now) (F.goes function.now) base places era.actors workers.old.items
-        → IsTurnAt s store.old.entries store.new.entries lanes.now (F.begins function.now) (F.asks function.now) (F.goes function.now) base places era workers.new.items number made) }
+        → AreAtWork s store.old.entries lanes.now (F.behaviour function.now).begins (F.behaviour function.now).asks (F.behaviour function.now).goes base places era.actors workers.old.items
+        → IsTurnAt s store.old.entries store.new.entries lanes.now (F.behaviour function.now).begins (F.behaviour function.now).asks (F.behaviour function.now).goes base places era workers.new.items number made) }
 {
     let worker = &mut workers[number];
     let packets = packets_on(lanes, worker.instance.lane);
@@ -54,8 +54,8 @@ fn turns_by<F: Function>(
     ensures counts { OnOk result (length store.old.entries < 2 ^ 62 → length store.new.entries < 2 ^ 62) }
     ensures turned { OnOk result ((s : Setting F.Flight) (base : ℕ) (places : ℕ → ℕ) (era : Era)
         → s.shards ≡ store.old.shards
-        → AreAtWork s store.old.entries lanes.now (F.begins function.now) (F.asks function.now) (F.goes function.now) base places era.actors workers.old.items
-        → IsTurned s store.old.entries store.new.entries lanes.now (F.begins function.now) (F.asks function.now) (F.goes function.now) base places era workers.new.items numbers.now) }
+        → AreAtWork s store.old.entries lanes.now (F.behaviour function.now).begins (F.behaviour function.now).asks (F.behaviour function.now).goes base places era.actors workers.old.items
+        → IsTurned s store.old.entries store.new.entries lanes.now (F.behaviour function.now).begins (F.behaviour function.now).asks (F.behaviour function.now).goes base places era workers.new.items numbers.now) }
 {
     for number in numbers {
         turn_at(function, lanes, store, workers, *number as usize)?;
@@ -79,8 +79,8 @@ fn round<F: Function>(
     ensures kept { IfOk result (λ made. made ≡ false → store.new ≡ store.old) }
     ensures turned { IfOk result (λ made. (s : Setting F.Flight) (base : ℕ) (places : ℕ → ℕ) (era : Era)
         → s.shards ≡ store.old.shards
-        → AreAtWork s store.old.entries lanes.now (F.begins function.now) (F.asks function.now) (F.goes function.now) base places era.actors workers.old.items
-        → IsRound s store.old.entries store.new.entries lanes.now (F.begins function.now) (F.asks function.now) (F.goes function.now) base places era workers.new.items made) }
+        → AreAtWork s store.old.entries lanes.now (F.behaviour function.now).begins (F.behaviour function.now).asks (F.behaviour function.now).goes base places era.actors workers.old.items
+        → IsRound s store.old.entries store.new.entries lanes.now (F.behaviour function.now).begins (F.behaviour function.now).asks (F.behaviour function.now).goes base places era workers.new.items made) }
 {
     let mut made = false;
     for number in 0..workers.len() {
@@ -104,8 +104,8 @@ fn rounds<F: Function>(
     ensures counts { OnOk result (length store.old.entries < 2 ^ 62 → length store.new.entries < 2 ^ 62) }
     ensures done { OnOk result ((s : Setting F.Flight) (base : ℕ) (places : ℕ → ℕ) (era : Era)
         → s.shards ≡ store.old.shards
-        → AreAtWork s store.old.entries lanes.now (F.begins function.now) (F.asks function.now) (F.goes function.now) base places era.actors workers.old.items
-        → AreDone s store.old.entries store.new.entries lanes.now (F.begins function.now) (F.asks function.now) (F.goes function.now) base places era workers.new.items) }
+        → AreAtWork s store.old.entries lanes.now (F.behaviour function.now).begins (F.behaviour function.now).asks (F.behaviour function.now).goes base places era.actors workers.old.items
+        → AreDone s store.old.entries store.new.entries lanes.now (F.behaviour function.now).begins (F.behaviour function.now).asks (F.behaviour function.now).goes base places era workers.new.items) }
 {
     while round(function, lanes, store, workers)? {}
     Ok(())
@@ -132,7 +132,7 @@ fn make_workers<F: Function>(
     requires base { base + length instances.now ≤ 2 ^ 32 }
     requires few { AreFew lanes.now }
     requires fits { IsFitting lanes.now (lists ledger.now) }
-    ensures { IfOk result (λ workers. AreMade lanes.now (F.begins function.now) (F.asks function.now) (F.goes function.now) base instances.now (lists ledger.now) workers.items) }
+    ensures { IfOk result (λ workers. AreMade lanes.now (F.behaviour function.now).begins (F.behaviour function.now).asks (F.behaviour function.now).goes base instances.now (lists ledger.now) workers.items) }
 {
     let mut workers = Vec::new(alloc);
     for number in 0..instances.len() {
@@ -166,7 +166,7 @@ pub(crate) fn run_epoch<F: Function>(
     ensures passed { OnOk result ((s : Setting F.Flight) (era : Era)
         → s.shards ≡ store.old.shards
         → era.actors ≡ map instance_actor epoch.now.instances → era.schedule ≡ epoch.now.schedule
-        → AreRunBy s lanes.now (F.begins function.now) (F.asks function.now) (F.goes function.now) base epoch.now.instances
+        → AreRunBy s lanes.now (F.behaviour function.now).begins (F.behaviour function.now).asks (F.behaviour function.now).goes base epoch.now.instances
         → ((i : ℕ) → base ≤ i → part_of i store.old.entries ≡ [])
         → HasPassed s lanes.now base era store.old.entries store.new.entries (lists ledger.old.items) (lists ledger.new.items)) }
 {

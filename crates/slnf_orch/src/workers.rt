@@ -37,7 +37,7 @@ fn settle<F: Function>(
     ensures within { OnOk result (IsWithin packets.now worker.new) }
     ensures job { OnOk result (IsSameJob worker.old worker.new) }
     ensures settled { OnOk result ((s : Setting F.Flight) (es : List Entry)
-        → IsRunBy s worker.old.incarnation worker.old.instance.lane packets.now (F.begins function.now) (F.asks function.now) (F.goes function.now)
+        → IsRunBy s worker.old.incarnation worker.old.instance.lane packets.now (F.behaviour function.now).begins (F.behaviour function.now).asks (F.behaviour function.now).goes
         → Works s es worker.old → IsSettled s es worker.new) }
 {
     let mut number = worker.at + worker.verdicts.len();
@@ -90,7 +90,7 @@ pub(crate) fn turn<F: Function>(
     ensures kept { IfOk result (λ made. made ≡ false → store.new ≡ store.old) }
     ensures idle { IfOk result (λ made. made ≡ false → worker.new.flight ≡ None) }
     ensures turned { IfOk result (λ made. (s : Setting F.Flight)
-        → IsRunBy s worker.old.incarnation worker.old.instance.lane packets.now (F.begins function.now) (F.asks function.now) (F.goes function.now)
+        → IsRunBy s worker.old.incarnation worker.old.instance.lane packets.now (F.behaviour function.now).begins (F.behaviour function.now).asks (F.behaviour function.now).goes
         → s.shards ≡ store.old.shards
         → IsSettled s store.old.entries worker.old
         → IsTurn s store.old.entries store.new.entries worker.old worker.new made) }
@@ -138,7 +138,7 @@ pub(crate) fn make<F: Function>(
     ensures within { IfOk result (IsWithin packets.now) }
     ensures job { IfOk result (IsMade incarnation instance at) }
     ensures settled { IfOk result (λ worker. (s : Setting F.Flight) (es : List Entry)
-        → IsRunBy s incarnation instance.lane packets.now (F.begins function.now) (F.asks function.now) (F.goes function.now)
+        → IsRunBy s incarnation instance.lane packets.now (F.behaviour function.now).begins (F.behaviour function.now).asks (F.behaviour function.now).goes
         → part_of incarnation es ≡ [] → IsSettled s es worker) }
 {
     let mut worker = Worker {

@@ -13,7 +13,8 @@ use Rattle.slnf_view.specs.declared.View.{View}
 use Rattle.slnf_view.specs.Field.{word_at}
 use Rattle.slnf_view.specs.View.{transport_length, LiesWithin}
 use Rattle.slnf_rewrite.specs.Rewritten.{with_word, pair_changes, check_offset, header_check_place, header_check, nonzero, transport_adjusted, transport_check_place, transport_check, with_pair, rewritten}
-use Rattle.slnf_rewrite.specs.Verified.{header_words, HasCheck, IsPair, IsSide, StaysVerified}
+use Rattle.slnf_base.specs.Ranges.{IsPair}
+use Rattle.slnf_rewrite.specs.Verified.{header_words, HasCheck, IsSide, StaysVerified}
 use Rattle.slnf_rewrite.proofs.Spans.{length-with_word}
 use Rattle.slnf_rewrite.proofs.Written.{Placed}
 use Rattle.slnf_rewrite.proofs.Checks.{IsSeal, header-verifies, transport-verifies}

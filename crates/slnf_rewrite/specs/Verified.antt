@@ -33,8 +33,3 @@ StaysVerified old new view =
 abbrev pub IsSide : View → ℕ → ℕ → Type 0
 IsSide view address port =
     (side : ℕ) × (side ≤ 1) × (address ≡ view.ip + 12 + 4 * side) × (port ≡ view.l4 + 2 * side)
-
--- the numbers of an address and a port
-pub record IsPair (pair : Pair) : Type 0 where
-  pub addr : pair.addr < 2 ^ 32
-  pub port : pair.port < 2 ^ 16

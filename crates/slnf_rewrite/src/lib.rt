@@ -7,7 +7,8 @@ ghost use Rattle.slnf_sum.specs.Sum.{adjusted_over, Verifies};
 ghost use Rattle.slnf_view.specs.Field.{word_at};
 ghost use Rattle.slnf_view.specs.View.{IsViewOf, LiesWithin};
 ghost use Rattle.slnf_rewrite.specs.Rewritten.{with_word, with_address, address_changes, pair_changes, check_offset, transport_check_place, nonzero, header_check, transport_check, with_pair, rewritten};
-ghost use Rattle.slnf_rewrite.specs.Verified.{header_words, HasCheck, IsPair, IsSide, StaysVerified};
+ghost use Rattle.slnf_base.specs.Ranges.{IsPair};
+ghost use Rattle.slnf_rewrite.specs.Verified.{header_words, HasCheck, IsSide, StaysVerified};
 
 use byteorder::{BigEndian, ByteOrder};
 use slnf_base::{Change, Pair, Proto};

@@ -10,7 +10,7 @@ use Rattle.slnf_pcap.specs.declared.capture.Captured.{Captured}
 use Rattle.slnf_pcap.specs.declared.capture.Capture.{Capture}
 use Rattle.slnf_plan.specs.declared.plan.Plan.{Plan}
 use Rattle.slnf_plan.specs.declared.plan.FunctionPlan.TheVariants.{Balancer}
-use Rattle.slnf_lb.specs.Ranges.{is_pair}
+use Rattle.slnf_base.specs.Ranges.{is_pair}
 use Rattle.slnf_flight.specs.declared.lanes.Lane.{Lane}
 use Rattle.slnf_flight.specs.declared.outcomes.Outcome.{Outcome}
 use Rattle.slnf_flight.specs.Captures.{packets_in, packets_of}

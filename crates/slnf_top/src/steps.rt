@@ -1,7 +1,7 @@
 ghost use Rattle.std.specs.Prelude.{◌≡◌, ◌≤◌, length, true, IfOk, IsTrue};
 ghost use Rattle.std.specs.List.{list_all};
 ghost use Rattle.slnf_plan.specs.declared.plan.FunctionPlan.TheVariants.{Balancer};
-ghost use Rattle.slnf_lb.specs.Ranges.{is_pair};
+ghost use Rattle.slnf_base.specs.Ranges.{is_pair};
 ghost use Rattle.slnf_flight.specs.Lanes.{packet_count};
 ghost use Rattle.slnf_top.specs.Inputs.{AreRead};
 ghost use Rattle.slnf_top.specs.Written.{IsOutcome, IsRunOf};

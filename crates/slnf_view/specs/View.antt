@@ -5,6 +5,7 @@ use Rattle.std.specs.Option.{option_map_or}
 use Rattle.slnf_base.specs.declared.packets.Link.{Link}
 use Rattle.slnf_base.specs.declared.packets.Link.TheVariants.{Ethernet, Raw}
 use Rattle.slnf_base.specs.declared.packets.Packet.{Packet}
+use Rattle.slnf_base.specs.Numbers.{proto_with}
 use Rattle.slnf_base.specs.declared.packets.Proto.{Proto}
 use Rattle.slnf_base.specs.declared.packets.Proto.TheVariants.{Tcp, Udp}
 use Rattle.slnf_base.specs.declared.packets.Reason.{Reason}
@@ -39,10 +40,6 @@ is_fragment p = nat_le 8 (length p) && not (word_at p 6 % 0x4000 == 0)
 -- the length of the IPv4 header in bytes: IHL words of four bytes (RFC 791)
 abbrev pub header_length : List ℕ → ℕ
 header_length p = 4 * (slice_index p 0 % 16)
-
--- the protocol with a number, where it is TCP or UDP
-abbrev pub proto_with : ℕ → Option Proto
-proto_with number = if number == 6 then Some Tcp else (if number == 17 then Some Udp else None)
 
 -- the datagram's protocol
 abbrev pub proto_of : List ℕ → Option Proto

@@ -3,7 +3,7 @@
 
 ghost use Rattle.std.specs.Prelude.{◌≡◌, ◌+◌, ◌≤◌, ◌<◌, true, false, length, IfOk, IfErr};
 ghost use Rattle.slnf_view.specs.Field.{word_at, address_at};
-ghost use Rattle.slnf_view.specs.View.{ip_of, datagram_of, lacks_ipv4_type, is_not_ipv4, is_fragment, header_length, proto_with, proto_of, transport_length, headers_length, is_short, flags_of, packet_of, view_of, IsViewOf, LiesWithin};
+ghost use Rattle.slnf_view.specs.View.{ip_of, datagram_of, lacks_ipv4_type, is_not_ipv4, is_fragment, header_length, proto_of, transport_length, headers_length, is_short, flags_of, packet_of, view_of, IsViewOf, LiesWithin};
 
 use byteorder::{BigEndian, ByteOrder};
 use slnf_base::{Link, Packet, Pair, Proto, Reason};
@@ -38,10 +38,6 @@ const TCP_FLAGS: usize = 13;
 const IPV4_TYPE: u16 = 0x0800;
 
 const LEAST_IPV4_LENGTH: usize = 20;
-
-const TCP: u8 = 6;
-
-const UDP: u8 = 17;
 
 /// The 16-bit word at a place, the high byte first.
 pub fn word_at(bytes: &[u8], place: usize) -> u16
@@ -113,17 +109,6 @@ fn header_length(datagram: &[u8]) -> usize
     4 * usize::from(datagram[0] % 16)
 }
 
-// The transport protocol with a number.
-fn proto_with(number: u8) -> Option<Proto>
-    ensures { result ≡ proto_with number }
-{
-    match number {
-        TCP => Some(Proto::Tcp),
-        UDP => Some(Proto::Udp),
-        _ => None,
-    }
-}
-
 // The length of the transport header without options.
 fn transport_length(proto: Proto) -> usize
     ensures { result ≡ transport_length proto }
@@ -139,7 +124,7 @@ fn headers_length(datagram: &[u8]) -> usize
     requires { 20 ≤ length datagram.now }
     ensures { result ≡ headers_length datagram.now }
 {
-    header_length(datagram) + proto_with(datagram[PROTOCOL]).map_or(0, transport_length)
+    header_length(datagram) + Proto::from_number(datagram[PROTOCOL]).map_or(0, transport_length)
 }
 
 // Whether the headers aren't whole.
@@ -200,7 +185,7 @@ pub fn view_frame(link: Link, frame: &[u8]) -> Result<View, Reason>
     if is_short(datagram) {
         return Err(Reason::Short);
     }
-    let proto = proto_with(datagram[PROTOCOL]).ok_or(Reason::Protocol)?;
+    let proto = Proto::from_number(datagram[PROTOCOL]).ok_or(Reason::Protocol)?;
     let ip = ip_of(link);
     Ok(View {
         packet: packet_of(proto, datagram),

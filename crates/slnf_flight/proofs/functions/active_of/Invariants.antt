@@ -1,7 +1,7 @@
 -- the backends so far, and those of the places that are left, are all; each has its ranges
 use Rattle.std.proofs.Common.{◌≡◌, ◌++◌, drop, vec_len, IsTrue}
 use Rattle.std.specs.List.{list_all}
-use Rattle.slnf_lb.specs.Ranges.{is_pair}
+use Rattle.slnf_base.specs.Ranges.{is_pair}
 use Rattle.slnf_flight.specs.PlanSetting.{backends_at}
 use Rattle.slnf_flight.proofs.functions.active_of.Given as goal
 

@@ -8,6 +8,6 @@ use Rattle.slnf_flight.proofs.standings.begin_all.Goals as goal
 
 pub loop-number-preserved : goal.loop-number-preserved
 loop-number-preserved g c =
-    map_next (λ number. standing_at (begun_of (g.F.Function.begins c.args.function.now c.args.incarnation) c.args.packets.now number)) c.args.at c.args.end c.loop-number.number c.loop-number.standings.items c.push.new.self.items _ c.started.result (omega arith)
-    (c.started.ensures ∙ ap standing_at (c.begin.ensures ∙ ap (begins_with (g.F.Function.begins c.args.function.now c.args.incarnation c.loop-number.number)) (sym (slice_get-get_or c.args.packets.now c.loop-number.number _ (omega (arith, c.requires.inside))))))
+    map_next (λ number. standing_at (begun_of ((g.F.Function.behaviour c.args.function.now).begins c.args.incarnation) c.args.packets.now number)) c.args.at c.args.end c.loop-number.number c.loop-number.standings.items c.push.new.self.items _ c.started.result (omega arith)
+    (c.started.ensures ∙ ap standing_at (c.begin.ensures ∙ ap (begins_with ((g.F.Function.behaviour c.args.function.now).begins c.args.incarnation c.loop-number.number)) (sym (slice_get-get_or c.args.packets.now c.loop-number.number _ (omega (arith, c.requires.inside))))))
     c.in_ok-push.ensures.items c.loop-number.invariant

@@ -6,5 +6,5 @@ use Rattle.slnf_flight.proofs.standings.begin_all.Given as goal
 
 abbrev pub invariant-loop-number : goal.invariant-loop-number
 invariant-loop-number g l =
-    l.standings.items ++ map (λ number. standing_at (begun_of (g.F.Function.begins l.function l.incarnation) l.packets number)) (range_with_len l.number (l.end - l.number))
-    ≡ map (λ number. standing_at (begun_of (g.F.Function.begins l.function l.incarnation) l.packets number)) (range_with_len l.at (l.end - l.at))
+    l.standings.items ++ map (λ number. standing_at (begun_of ((g.F.Function.behaviour l.function).begins l.incarnation) l.packets number)) (range_with_len l.number (l.end - l.number))
+    ≡ map (λ number. standing_at (begun_of ((g.F.Function.behaviour l.function).begins l.incarnation) l.packets number)) (range_with_len l.at (l.end - l.at))

@@ -3,8 +3,9 @@ use Rattle.std.proofs.Common.{◌≡◌, ◌-◌, length, ap, ◌∙◌, refl, a
 use Rattle.std.specs.Prelude.{Vec}
 use Rattle.std.specs.declared.alloc.Global.{Global}
 use Rattle.std.proofs.lemmas.List.FromFn.{length-map-range_with_len}
+use Rattle.slnf_access.specs.Machines.{machine_of}
 use Rattle.slnf_flight.specs.declared.standings.Standing.{Standing}
-use Rattle.slnf_flight.specs.Standings.{machine_of, begun_of}
+use Rattle.slnf_flight.specs.Standings.{begun_of}
 use Rattle.slnf_flight.proofs.Following.{can_answer, follow_own, follow_other, followed_all}
 use Rattle.slnf_flight.proofs.Partings.{any_entry}
 use Rattle.slnf_flight.proofs.standings.stand_all.Goals as goal
@@ -17,13 +18,13 @@ index_mut-requires g c =
 
 pub answer-requires : goal.answer-requires
 answer-requires g c flight some =
-    can_answer (machine_of (g.F.Function.asks c.args.function.now) (g.F.Function.goes c.args.function.now)) (begun_of (g.F.Function.begins c.args.function.now c.args.incarnation) c.args.packets.now) c.args.entries.now c.loop-entry.entry-index _ c.args.at (c.args.end - c.args.at) c.loop-entry.standings.items c.index_mut.result.now flight
+    can_answer (machine_of (g.F.Function.behaviour c.args.function.now)) (begun_of ((g.F.Function.behaviour c.args.function.now).begins c.args.incarnation) c.args.packets.now) c.args.entries.now c.loop-entry.entry-index _ c.args.at (c.args.end - c.args.at) c.loop-entry.standings.items c.index_mut.result.now flight
     c.requires.followed (omega arith) (omega arith) (omega arith) c.loop-entry.invariant c.index_mut.ensures.value some
 
 pub loop-entry-preserved : goal.loop-entry-preserved
 loop-entry-preserved g c =
-    let machine = machine_of (g.F.Function.asks c.args.function.now) (g.F.Function.goes c.args.function.now) in
-    let begun = begun_of (g.F.Function.begins c.args.function.now c.args.incarnation) c.args.packets.now in
+    let machine = machine_of (g.F.Function.behaviour c.args.function.now) in
+    let begun = begun_of ((g.F.Function.behaviour c.args.function.now).begins c.args.incarnation) c.args.packets.now in
     elim c.if-at-item.branch [
       | then-at-item+then-item-end w ↦
           ap (λ (v : Vec (Standing _) Global). v.items) w.standings-is
@@ -41,5 +42,5 @@ loop-entry-preserved g c =
 
 pub returns : goal.returns
 returns g c =
-    followed_all (machine_of (g.F.Function.asks c.args.function.now) (g.F.Function.goes c.args.function.now)) (begun_of (g.F.Function.begins c.args.function.now c.args.incarnation) c.args.packets.now) c.args.entries.now c.loop-entry.entry-index c.args.at (c.args.end - c.args.at) c.loop-entry.standings.items
+    followed_all (machine_of (g.F.Function.behaviour c.args.function.now)) (begun_of ((g.F.Function.behaviour c.args.function.now).begins c.args.incarnation) c.args.packets.now) c.args.entries.now c.loop-entry.entry-index c.args.at (c.args.end - c.args.at) c.loop-entry.standings.items
     (omega arith) c.loop-entry.invariant

@@ -1,7 +1,8 @@
 -- the verdicts are those of the standings
 use Rattle.std.proofs.Common.{◌-◌, map, ap, ◌∙◌}
+use Rattle.slnf_access.specs.Machines.{machine_of}
 use Rattle.slnf_flight.specs.declared.standings.Standing.{Standing}
-use Rattle.slnf_flight.specs.Standings.{machine_of, begun_of, stand_in}
+use Rattle.slnf_flight.specs.Standings.{begun_of, stand_in}
 use Rattle.slnf_flight.proofs.Following.{verdicts_are}
 use Rattle.slnf_flight.proofs.standings.verdicts_by.Goals as goal
 
@@ -9,4 +10,4 @@ pub returns : goal.returns
 returns g c =
     c.in_ok-verdicts.ensures
     ∙ (ap (λ l. map (λ (s : Standing _). s.verdict) l) (c.as_slice.ensures.value ∙ c.in_ok-standings.ensures)
-    ∙ verdicts_are (stand_in (machine_of (g.F.Function.asks c.args.function.now) (g.F.Function.goes c.args.function.now)) (begun_of (g.F.Function.begins c.args.function.now c.args.incarnation) c.args.packets.now) c.args.entries.now) c.args.at (c.args.end - c.args.at))
+    ∙ verdicts_are (stand_in (machine_of (g.F.Function.behaviour c.args.function.now)) (begun_of ((g.F.Function.behaviour c.args.function.now).begins c.args.incarnation) c.args.packets.now) c.args.entries.now) c.args.at (c.args.end - c.args.at))

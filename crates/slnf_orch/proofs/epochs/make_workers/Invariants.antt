@@ -8,5 +8,5 @@ use Rattle.slnf_orch.proofs.epochs.make_workers.Given as goal
 abbrev pub invariant-loop-number : goal.invariant-loop-number
 invariant-loop-number g l = record {
   count : length l.workers.items ≡ l.number;
-  each : EachAt (IsMadeAt l.lanes (g.F.Function.begins l.function) (g.F.Function.asks l.function) (g.F.Function.goes l.function) l.base l.instances (lists l.ledger)) l.workers.items;
+  each : EachAt (IsMadeAt l.lanes (g.F.Function.behaviour l.function).begins (g.F.Function.behaviour l.function).asks (g.F.Function.behaviour l.function).goes l.base l.instances (lists l.ledger)) l.workers.items;
 }

@@ -15,5 +15,5 @@ invariant-loop-number g l = record {
   grows : l.made ≡ true → length l.fn.store.entries < length l.store.entries;
   least : length l.fn.store.entries ≤ length l.store.entries;
   kept : l.made ≡ false → l.store ≡ l.fn.store;
-  turned : (s : Setting g.row.F-Flight.Denot) (base : ℕ) (places : ℕ → ℕ) (era : Era) → s.shards ≡ l.fn.store.shards → AreAtWork s l.fn.store.entries l.lanes (g.F.Function.begins l.function) (g.F.Function.asks l.function) (g.F.Function.goes l.function) base places era.actors l.fn.workers.items → (turns s base places era (range_with_len l.number (length l.fn.workers.items - l.number)) l.store.entries ≡ turns s base places era (round era) l.fn.store.entries) × AreAtWork s l.store.entries l.lanes (g.F.Function.begins l.function) (g.F.Function.asks l.function) (g.F.Function.goes l.function) base places era.actors l.workers.items × (l.made ≡ false → NoneWants s l.store.entries base places era.actors l.number);
+  turned : (s : Setting g.row.F-Flight.Denot) (base : ℕ) (places : ℕ → ℕ) (era : Era) → s.shards ≡ l.fn.store.shards → AreAtWork s l.fn.store.entries l.lanes (g.F.Function.behaviour l.function).begins (g.F.Function.behaviour l.function).asks (g.F.Function.behaviour l.function).goes base places era.actors l.fn.workers.items → (turns s base places era (range_with_len l.number (length l.fn.workers.items - l.number)) l.store.entries ≡ turns s base places era (round era) l.fn.store.entries) × AreAtWork s l.store.entries l.lanes (g.F.Function.behaviour l.function).begins (g.F.Function.behaviour l.function).asks (g.F.Function.behaviour l.function).goes base places era.actors l.workers.items × (l.made ≡ false → NoneWants s l.store.entries base places era.actors l.number);
 }

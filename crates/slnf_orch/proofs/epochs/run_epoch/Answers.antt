@@ -13,11 +13,11 @@ turns_by-requires-clause-within g c =
 
 pub returns-clause-passed : goal.returns-clause-passed
 returns-clause-passed g c s era shards are schedule runs fresh =
-    let made = subst (λ l. AreMade c.args.lanes.now (g.F.Function.begins c.args.function.now) (g.F.Function.asks c.args.function.now) (g.F.Function.goes c.args.function.now) c.args.base c.args.epoch.now.instances (lists l) c.in_ok-workers.workers.items) c.as_slice.ensures.value
-    (subst (λ l. AreMade c.args.lanes.now (g.F.Function.begins c.args.function.now) (g.F.Function.asks c.args.function.now) (g.F.Function.goes c.args.function.now) c.args.base l (lists c.as_slice.result.now) c.in_ok-workers.workers.items) c.as_slice-instances.ensures c.in_ok-workers.ensures) in
+    let made = subst (λ l. AreMade c.args.lanes.now (g.F.Function.behaviour c.args.function.now).begins (g.F.Function.behaviour c.args.function.now).asks (g.F.Function.behaviour c.args.function.now).goes c.args.base c.args.epoch.now.instances (lists l) c.in_ok-workers.workers.items) c.as_slice.ensures.value
+    (subst (λ l. AreMade c.args.lanes.now (g.F.Function.behaviour c.args.function.now).begins (g.F.Function.behaviour c.args.function.now).asks (g.F.Function.behaviour c.args.function.now).goes c.args.base l (lists c.as_slice.result.now) c.in_ok-workers.workers.items) c.as_slice-instances.ensures c.in_ok-workers.ensures) in
     let places = places_in (lists c.args.ledger.now.items) in
     let at_work = at_work_made s c.args.store.now.entries c.args.lanes.now _ _ _ c.args.base c.args.epoch.now.instances (lists c.args.ledger.now.items) era.actors c.in_ok-workers.workers.items made are runs fresh in
-    let turned = subst (λ l. IsTurned s c.args.store.now.entries c.turns_by.new.store.entries c.args.lanes.now (g.F.Function.begins c.args.function.now) (g.F.Function.asks c.args.function.now) (g.F.Function.goes c.args.function.now) c.args.base places era c.turns_by.new.workers.items l) (c.as_slice-2.ensures ∙ sym schedule)
+    let turned = subst (λ l. IsTurned s c.args.store.now.entries c.turns_by.new.store.entries c.args.lanes.now (g.F.Function.behaviour c.args.function.now).begins (g.F.Function.behaviour c.args.function.now).asks (g.F.Function.behaviour c.args.function.now).goes c.args.base places era c.turns_by.new.workers.items l) (c.as_slice-2.ensures ∙ sym schedule)
     (c.in_ok-turns_by.ensures.turned s c.args.base places era shards at_work) in
     let done = c.in_ok-rounds.ensures.done s c.args.base places era (shards ∙ sym c.in_ok-turns_by.ensures.shards) turned.at_work in
     let before : length (lists c.args.ledger.now.items) ≡ length c.args.ledger.now.items = length-map c.args.ledger.now.items _ in

@@ -11,7 +11,7 @@ invariant-loop-number g l = record {
   idle : l.worker.flight ≡ None;
   number : l.number ≡ packet_of l.worker;
   job : IsSameJob l.fn.worker l.worker;
-  works : (s : Setting g.row.F-Flight.Denot) (es : List Entry) → IsRunBy s l.fn.worker.incarnation l.fn.worker.instance.lane l.packets (g.F.Function.begins l.function) (g.F.Function.asks l.function) (g.F.Function.goes l.function) → Works s es l.fn.worker → Works s es l.worker;
+  works : (s : Setting g.row.F-Flight.Denot) (es : List Entry) → IsRunBy s l.fn.worker.incarnation l.fn.worker.instance.lane l.packets (g.F.Function.behaviour l.function).begins (g.F.Function.behaviour l.function).asks (g.F.Function.behaviour l.function).goes → Works s es l.fn.worker → Works s es l.worker;
 }
 
 abbrev pub decreases-loop-number : goal.decreases-loop-number

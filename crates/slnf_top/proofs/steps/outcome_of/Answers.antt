@@ -2,7 +2,7 @@ use Rattle.std.proofs.Common.{subst}
 use Rattle.std.specs.Prelude.{List, IsTrue}
 use Rattle.std.specs.List.{list_all}
 use Rattle.slnf_base.specs.declared.addresses.Pair.{Pair}
-use Rattle.slnf_lb.specs.Ranges.{is_pair}
+use Rattle.slnf_base.specs.Ranges.{is_pair}
 use Rattle.slnf_top.proofs.Runs.{outcome_if_ok}
 use Rattle.slnf_top.proofs.steps.outcome_of.Goals as goal
 
