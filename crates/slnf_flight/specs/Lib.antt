@@ -8,7 +8,6 @@ pub mod OneBox
 pub mod Ranges
 pub mod PlanSetting
 pub mod Keeps
-pub mod Pins
 pub mod Captures
 pub mod Output
 pub mod Functions

@@ -15,7 +15,7 @@ ghost use Rattle.slnf_flight.specs.Parts.{part_of, of_item};
 ghost use Rattle.slnf_flight.specs.Run.{IsRun};
 ghost use Rattle.slnf_flight.specs.Scheduled.{IsScheduled};
 ghost use Rattle.slnf_flight.specs.OneBox.{IsOneBox};
-ghost use Rattle.slnf_flight.specs.Pins.{PinsStay};
+ghost use Rattle.slnf_lb.specs.Pins.{PinsStay};
 ghost use Rattle.slnf_flight.specs.PlanSetting.{lb_setting, lb_box};
 
 /// The journal of a schedule is a run, and the only one that the schedule makes, however many rounds are counted.

@@ -3,3 +3,5 @@ pub mod Machine
 pub mod Box
 pub mod Refuses
 pub mod Kept
+pub mod Scene
+pub mod Pins

@@ -14,7 +14,7 @@ use Rattle.slnf_flight.specs.Scheduled.{IsScheduled}
 use Rattle.slnf_flight.specs.declared.outcomes.Outcome.{Outcome}
 use Rattle.slnf_flight.specs.Verdicts.{verdicts_of, left_in}
 use Rattle.slnf_flight.specs.OneBox.{IsOneBox}
-use Rattle.slnf_flight.specs.Pins.{PinsStay}
+use Rattle.slnf_lb.specs.Pins.{PinsStay}
 use Rattle.slnf_flight.specs.PlanSetting.{lb_setting, lb_box}
 use Rattle.slnf_top.specs.declared.statuses.Status.{Status}
 use Rattle.slnf_top.specs.declared.statuses.Status.TheVariants as status

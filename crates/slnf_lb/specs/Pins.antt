@@ -8,4 +8,6 @@ use Rattle.slnf_lb.specs.Box.{pin_at}
 
 -- a client that has a backend after some prefix has it after every longer one
 pub record PinsStay (j : List Entry) : Type 0 where
-  pub stays : (proto : Proto) (client backend : Pair) (t u : ℕ) → t ≤ u → pin_at (map_after empty (take t j)) proto client ≡ Some backend → pin_at (map_after empty (take u j)) proto client ≡ Some backend
+  pub stays : (proto : Proto) (client backend : Pair) (t u : ℕ) → t ≤ u →
+      pin_at (map_after empty (take t j)) proto client ≡ Some backend →
+      pin_at (map_after empty (take u j)) proto client ≡ Some backend
