@@ -45,6 +45,7 @@ pub mod Recalled
 pub mod Rising
 pub mod RunOfGrown
 pub mod Runs
+pub mod ScheduledOnce
 pub mod Scheduling
 pub mod Sorting
 pub mod SoundCases
