@@ -2,10 +2,18 @@
 #![tactic(auto)]
 
 mod entries;
+mod errors;
+mod fields;
 mod lines;
+mod parts;
+mod read;
+#[cfg(test)]
+mod read_tests;
 mod summary;
 mod verdicts;
 
 pub use entries::write_journal;
+pub use errors::JournalError;
+pub use read::read_journal;
 pub use summary::{Ending, write_summary};
 pub use verdicts::write_verdicts;
