@@ -10,7 +10,8 @@ use Rattle.slnf_access.specs.declared.requests.Held.{Held}
 use Rattle.slnf_access.specs.Map.{key_of, reply_to, cell_step, Cells, empty, map_after, IsLegalFrom, IsLegal}
 use Rattle.slnf_access.specs.Order.{InOrder}
 use Rattle.slnf_merge.specs.Merge.{AreHistories, all_of, shard_part, InShards, EachLegal, MergesLegally}
-use Rattle.slnf_merge.proofs.Orders.{IsIn, in_permuted, Strong, strong_from_order, strong_filtered, same_members, history_in, history_order, AllIn}
+pub use Rattle.slnf_merge.proofs.Orders.{IsIn, in_permuted, AllBefore, Strong, strong_from_order, strong_filtered, same_members}
+use Rattle.slnf_merge.proofs.Orders.{history_in, history_order, AllIn}
 
 -- two lists in strict order with the same entries are one
 pub in_order_same : (xs ys : List Entry) → InOrder xs → InOrder ys → IsPermutation xs ys → xs ≡ ys

@@ -14,8 +14,8 @@ use Rattle.slnf_access.specs.declared.requests.Entry.{Entry}
 use Rattle.slnf_access.specs.Order.{Precedes, InOrder, IsHistory}
 use Rattle.slnf_merge.specs.Merge.{AreHistories, all_of}
 
--- the entry is one of these
-abbrev pub IsIn : Entry → List Entry → Type 0
+-- x is one of these
+abbrev pub IsIn : {A : Type 0} → A → List A → Type 0
 IsIn x [] = ⊥
 IsIn x (e ∷ es) = (e ≡ x) ⊎ IsIn x es
 

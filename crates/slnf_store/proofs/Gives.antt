@@ -23,21 +23,26 @@ abbrev pub more_of : Entry → Answer → List Entry
 more_of e (Ok a) = e ∷ []
 more_of e (Err x) = []
 
-pub did : (e : Entry) (old new : Kept) (r : Answer) → OnOk r (new ≡ with_entry old e) → OnErr r (new ≡ old) → new.entries ≡ old.entries ++ more_of e r
+pub did : (e : Entry) (old new : Kept) (r : Answer) → OnOk r (new ≡ with_entry old e) → OnErr r (new ≡ old)
+    → new.entries ≡ old.entries ++ more_of e r
 did e old new (Ok a) ok err = ap (λ (k : Kept). k.entries) ok
 did e old new (Err x) ok err = ap (λ (k : Kept). k.entries) err ∙ sym (append-nil old.entries)
 
-more_number : (number : ℕ) (e : Entry) (r : Answer) → e.incarnation + 1 ≡ number → AllOf number (map line_of (more_of e r))
+more_number : (number : ℕ) (e : Entry) (r : Answer) → e.incarnation + 1 ≡ number
+    → AllOf number (map line_of (more_of e r))
 more_number number e (Ok a) h = (h, tt)
 more_number number e (Err x) h = tt
 
 -- the lines that the value grew by
-pub gives : (shard number : ℕ) (e : Entry) (old new : Kept) (m : View) (r : Answer) → OnOk r (new ≡ with_entry old e) → OnErr r (new ≡ old) → e.incarnation + 1 ≡ m.number → HasTurn m shard (map line_of old.entries)
+pub gives : (shard number : ℕ) (e : Entry) (old new : Kept) (m : View) (r : Answer) → OnOk r (new ≡ with_entry old e)
+    → OnErr r (new ≡ old) → e.incarnation + 1 ≡ m.number → HasTurn m shard (map line_of old.entries)
     → (base more : List Line) × HasTurn m shard base × (map line_of new.entries ≡ base ++ more) × AllOf m.number more
 gives shard number e old new m r ok err is turn =
-    (map line_of old.entries, map line_of (more_of e r), turn, ap (map line_of) (did e old new r ok err) ∙ lines_append old.entries (more_of e r), more_number m.number e r is)
+    (map line_of old.entries, map line_of (more_of e r), turn, ap (map line_of) (did e old new r ok err)
+        ∙ lines_append old.entries (more_of e r), more_number m.number e r is)
 
-seen_pick : (b : Bool) (w m new base was : List Line) → m ≡ (if b then base else was) → w ≡ (if b then new else m) → w ≡ (if b then new else was)
+seen_pick : (b : Bool) (w m new base was : List Line) → m ≡ (if b then base else was) → w ≡ (if b then new else m)
+    → w ≡ (if b then new else was)
 seen_pick true w m new base was hm hw = hw
 seen_pick false w m new base was hm hw = hw ∙ hm
 
@@ -50,29 +55,36 @@ pub turned : (shard : ℕ) (earlier more after : List Entry) (v m w : View)
     → Begins (seen_of shard v.seen) (map line_of earlier)
     → ((k : ℕ) → seen_of k m.seen ≡ (if k == shard then map line_of earlier else seen_of k v.seen))
     → HasTurn m shard (map line_of earlier) → m.own ≡ v.own → KeepsKin v m
-    → ((base new : List Line) → HasTurn m shard base → map line_of after ≡ base ++ new → w.own ≡ m.own ++ noted shard new)
+    → ((base new : List Line) → HasTurn m shard base → map line_of after ≡ base ++ new → w.own
+        ≡ m.own ++ noted shard new)
     → ((k : ℕ) → seen_of k w.seen ≡ (if k == shard then map line_of after else seen_of k m.seen))
     → HasNoTurn w → KeepsKin m w
     → TakesTurn shard earlier more v w
 turned shard earlier more after v m w is grown seen turn own kin own' seen' free kin' =
     record {
       grown = grown;
-      seen = λ k. subst (λ (es : List Entry). seen_of k w.seen ≡ (if k == shard then map line_of es else seen_of k v.seen)) is
-          (seen_pick (k == shard) (seen_of k w.seen) (seen_of k m.seen) (map line_of after) (map line_of earlier) (seen_of k v.seen) (seen k) (seen' k));
-      own = own' (map line_of earlier) (map line_of more) turn (ap (map line_of) is ∙ lines_append earlier more) ∙ ap (λ xs. xs ++ noted shard (map line_of more)) own;
+      seen = λ k. subst (λ (es : List Entry). seen_of k w.seen
+          ≡ (if k == shard then map line_of es else seen_of k v.seen)) is
+          (seen_pick (k == shard) (seen_of k w.seen) (seen_of k m.seen) (map line_of after) (map line_of earlier)
+              (seen_of k v.seen) (seen k) (seen' k));
+      own = own' (map line_of earlier) (map line_of more) turn (ap (map line_of) is ∙ lines_append earlier more)
+          ∙ ap (λ xs. xs ++ noted shard (map line_of more)) own;
       free = free;
       kin = kin_trans v m w kin kin';
     }
 
 -- the bucket's entry, by its history
-pub same_entry : (kept : Kept) (shard incarnation clock item : ℕ) (request : Request) → kept.shard ≡ shard → kept.clock ≡ last_stamp 0 kept.entries → next_entry kept incarnation item clock request ≡ entry_after kept.entries shard incarnation clock item request
+pub same_entry : (kept : Kept) (shard incarnation clock item : ℕ) (request : Request) → kept.shard ≡ shard
+    → kept.clock ≡ last_stamp 0 kept.entries
+    → next_entry kept incarnation item clock request ≡ entry_after kept.entries shard incarnation clock item request
 same_entry kept shard incarnation clock item request s c = λ i. record {
   stamp = max (c i) clock + 1;
   shard = s i;
   incarnation = incarnation;
   item = item;
   request = request;
-  reply = reply_to request (max (c i) clock + 1) (cell_of (key_of request) Rattle.std.proofs.Common.None kept.entries);
+  reply = reply_to request (max (c i) clock + 1) (cell_of
+      (key_of request) Rattle.std.proofs.Common.None kept.entries);
 }
 
 abbrev error_or : BucketError → Answer → BucketError
@@ -83,10 +95,12 @@ module _ (shard incarnation clock item : ℕ) (request : Request) (v w : View) w
   -- what one turn answers, where the shard had this history
   abbrev pub Answered : Answer → List Entry → Type 0
   Answered r earlier = IsLegal earlier × MatchResult r
-      (λ (made : Reply × ℕ). TakesTurn shard earlier (entry_after earlier shard incarnation clock item request ∷ []) v w
+      (λ (made : Reply × ℕ). TakesTurn shard earlier
+          (entry_after earlier shard incarnation clock item request ∷ []) v w
       × (made.0 ≡ (entry_after earlier shard incarnation clock item request).reply)
       × (made.1 ≡ max (last_stamp 0 earlier) clock + 1) × (made.1 < 2 ^ 62) × CanReply request made.0)
-      (λ (refusal : BucketError). TakesTurn shard earlier [] v w × IsRefusal 1 (max (last_stamp 0 earlier) clock) refusal)
+      (λ (refusal : BucketError). TakesTurn shard earlier [] v w
+          × IsRefusal 1 (max (last_stamp 0 earlier) clock) refusal)
 
   pub answered : (kept : Kept) (r : Answer) → IsLegal kept.entries → kept.clock ≡ last_stamp 0 kept.entries
       → TakesTurn shard kept.entries (more_of (entry_after kept.entries shard incarnation clock item request) r) v w
@@ -96,7 +110,8 @@ module _ (shard incarnation clock item : ℕ) (request : Request) (v w : View) w
       → IfOk r (λ (a : Reply × ℕ). CanReply request a.0)
       → ((last : ℕ) → (r ≡ Err (StampsSpent last)) ↔ ((last ≡ max kept.clock clock) × (last ≡ 2 ^ 62 - 1)))
       → Answered r kept.entries
-  answered kept (Ok a) legal c t reply stamp below can spent = (legal, (t, reply, stamp ∙ ap (λ (n : ℕ). max n clock + 1) c, below, can))
+  answered kept (Ok a) legal c t reply stamp below can spent =
+      (legal, (t, reply, stamp ∙ ap (λ (n : ℕ). max n clock + 1) c, below, can))
   answered kept (Err x) legal c t reply stamp below can spent = (
     legal,
     (

@@ -19,7 +19,8 @@ use Rattle.slnf_store.specs.declared.shards.Shard.{Shard}
 use Rattle.slnf_store.specs.Passes.{entries_seen}
 use Rattle.slnf_store.specs.Closes.{history_at, incarnation_part, list_of}
 use Rattle.slnf_store.proofs.Written.{entries_back, begins_back}
-use Rattle.slnf_store.proofs.Members.{IsIn, in_left, in_right, in_either}
+use Rattle.slnf_merge.proofs.Laws.{IsIn}
+use Rattle.slnf_store.proofs.Members.{in_left, in_right, in_either, all_append, all_map}
 
 -- the entries of a shard's bucket
 abbrev pub entries_in : Shard → List Entry
@@ -51,71 +52,84 @@ in_shards : (shard shards : ℕ) (es : List Entry) → AreOwn shard shards es �
 in_shards shard shards [] h = tt
 in_shards shard shards (e ∷ es) h = (h.0 ∙ sym h.1, in_shards shard shards es h.2)
 
-all_map : {A : Type 0} (P Q : A → Type 0) (xs : List A) → ((x : A) → P x → Q x) → AllByRecursion P xs → AllByRecursion Q xs
-all_map P Q [] f h = tt
-all_map P Q (x ∷ xs) f h = (f x h.0, all_map P Q xs f h.1)
-
 -- stamps that rise are above the one before them, and none is above the last
 rises_last : (clock : ℕ) (es : List Entry) → RisesFrom clock es → clock ≤ last_stamp clock es
 rises_last clock [] r = omega arith
 rises_last clock (e ∷ es) r = let up = r.0 in let rest = rises_last e.stamp es r.1 in omega arith
 
-rises_within : (clock end : ℕ) (es : List Entry) → RisesFrom clock es → last_stamp clock es < end → AllByRecursion (λ (e : Entry). (0 < e.stamp) × (e.stamp < end)) es
+rises_within : (clock end : ℕ) (es : List Entry) → RisesFrom clock es → last_stamp clock es < end
+    → AllByRecursion (λ (e : Entry). (0 < e.stamp) × (e.stamp < end)) es
 rises_within clock end [] r below = tt
-rises_within clock end (e ∷ es) r below = let up = r.0 in let rest = rises_last e.stamp es r.1 in ((omega arith, omega arith), rises_within e.stamp end es r.1 below)
+rises_within clock end (e ∷ es) r below = let up = r.0 in
+    let rest = rises_last e.stamp es r.1 in ((omega arith, omega arith), rises_within e.stamp end es r.1 below)
 
-one_history : (low shards : ℕ) (v : View) (b : Shard) → IsLast lines_in place_of places_of shards v low b → IsKept b.bucket.kept → IsHistoryOf low shards v (entries_in b)
+one_history : (low shards : ℕ) (v : View) (b : Shard) → IsLast lines_in place_of places_of shards v low b
+    → IsKept b.bucket.kept → IsHistoryOf low shards v (entries_in b)
 one_history low shards v b l k =
     record {
       in_place = subst (λ (s : ℕ). IsHistory s (entries_in b)) l.place_is (IsHistory-from_kept b.bucket.kept k);
-      own = subst (λ (n : ℕ). InShards n (entries_in b)) l.places_are (in_shards b.bucket.kept.shard b.bucket.kept.shards (entries_in b) k.own);
+      own = subst (λ (n : ℕ). InShards n (entries_in b)) l.places_are
+          (in_shards b.bucket.kept.shard b.bucket.kept.shards (entries_in b) k.own);
       legal = k.legal;
       parts = l.parts;
-      seen = all_map (λ (x : Joined). Begins (seen_of low x.seen) (lines_in b)) (λ (x : Joined). Begins (entries_seen x.seen low) (entries_in b)) v.joined (λ x h. begins_back (seen_of low x.seen) (entries_in b) h) l.joined;
-      ranged = rises_within 0 (2 ^ 62) (entries_in b) k.rises (let last = k.clock_is in let below = k.below in omega arith);
+      seen = all_map (λ (x : Joined). Begins (seen_of low x.seen) (lines_in b))
+          (λ (x : Joined). Begins (entries_seen x.seen low) (entries_in b)) v.joined
+          (λ x h. begins_back (seen_of low x.seen) (entries_in b) h) l.joined;
+      ranged = rises_within 0 (2 ^ 62) (entries_in b) k.rises
+          (let last = k.clock_is in let below = k.below in omega arith);
     }
 
-pub from_last : (low shards : ℕ) (v : View) (bs : List Shard) → ((k : ℕ) (b : Shard) → slice_get bs k ≡ Some b → IsLast lines_in place_of places_of shards v (low + k) b)
+pub from_last : (low shards : ℕ) (v : View) (bs : List Shard)
+    → ((k : ℕ) (b : Shard) → slice_get bs k ≡ Some b → IsLast lines_in place_of places_of shards v (low + k) b)
     → AllByRecursion (λ (b : Shard). IsKept b.bucket.kept) bs → AreHistoriesOf low shards v (map entries_in bs)
 from_last low shards v [] f kept = tt
 from_last low shards v (b ∷ bs) f kept =
     let here : low + 0 ≡ low = omega arith in (
-      one_history low shards v b (subst (λ (k : ℕ). IsLast lines_in place_of places_of shards v k b) here (f 0 b refl)) kept.0,
-      from_last (low + 1) shards v bs (λ k c is. let next : low + suc k ≡ low + 1 + k = omega arith in subst (λ (j : ℕ). IsLast lines_in place_of places_of shards v j c) next (f (suc k) c is)) kept.1,
+      one_history low shards v b (subst (λ (k : ℕ). IsLast lines_in place_of places_of shards v k b) here
+          (f 0 b refl)) kept.0,
+      from_last (low + 1) shards v bs (λ k c is. let next : low + suc k
+          ≡ low + 1 + k = omega arith in subst (λ (j : ℕ). IsLast lines_in place_of places_of shards v j c) next
+          (f (suc k) c is)) kept.1,
     )
 
 -- what merge asks
-pub histories_in : (low shards : ℕ) (v : View) (hs : List (List Entry)) → AreHistoriesOf low shards v hs → AreHistories low hs
+pub histories_in : (low shards : ℕ) (v : View) (hs : List (List Entry)) → AreHistoriesOf low shards v hs
+    → AreHistories low hs
 histories_in low shards v [] h = tt
 histories_in low shards v (x ∷ xs) h = (h.0.in_place, histories_in (low + 1) shards v xs h.1)
 
-shards_append : (shards : ℕ) (xs ys : List Entry) → InShards shards xs → InShards shards ys → InShards shards (xs ++ ys)
+shards_append : (shards : ℕ) (xs ys : List Entry) → InShards shards xs → InShards shards ys
+    → InShards shards (xs ++ ys)
 shards_append shards [] ys h k = k
 shards_append shards (x ∷ xs) ys h k = (h.0, shards_append shards xs ys h.1 k)
 
-pub histories_own : (low shards : ℕ) (v : View) (hs : List (List Entry)) → AreHistoriesOf low shards v hs → InShards shards (all_of hs)
+pub histories_own : (low shards : ℕ) (v : View) (hs : List (List Entry)) → AreHistoriesOf low shards v hs
+    → InShards shards (all_of hs)
 histories_own low shards v [] h = tt
-histories_own low shards v (x ∷ xs) h = shards_append shards x (all_of xs) h.0.own (histories_own (low + 1) shards v xs h.1)
+histories_own low shards v (x ∷ xs) h = shards_append shards x (all_of xs) h.0.own
+    (histories_own (low + 1) shards v xs h.1)
 
-pub histories_legal : (low shards : ℕ) (v : View) (hs : List (List Entry)) → AreHistoriesOf low shards v hs → EachLegal hs
+pub histories_legal : (low shards : ℕ) (v : View) (hs : List (List Entry)) → AreHistoriesOf low shards v hs
+    → EachLegal hs
 histories_legal low shards v [] h = tt
 histories_legal low shards v (x ∷ xs) h = (h.0.legal, histories_legal (low + 1) shards v xs h.1)
 
-all_append : {A : Type 0} (P : A → Type 0) (xs ys : List A) → AllByRecursion P xs → AllByRecursion P ys → AllByRecursion P (xs ++ ys)
-all_append P [] ys h k = k
-all_append P (x ∷ xs) ys h k = (h.0, all_append P xs ys h.1 k)
-
-pub histories_ranged : (low shards : ℕ) (v : View) (hs : List (List Entry)) → AreHistoriesOf low shards v hs → AllByRecursion (λ (e : Entry). (0 < e.stamp) × (e.stamp < 2 ^ 62)) (all_of hs)
+pub histories_ranged : (low shards : ℕ) (v : View) (hs : List (List Entry)) → AreHistoriesOf low shards v hs
+    → AllByRecursion (λ (e : Entry). (0 < e.stamp) × (e.stamp < 2 ^ 62)) (all_of hs)
 histories_ranged low shards v [] h = tt
-histories_ranged low shards v (x ∷ xs) h = all_append (λ (e : Entry). (0 < e.stamp) × (e.stamp < 2 ^ 62)) x (all_of xs) h.0.ranged (histories_ranged (low + 1) shards v xs h.1)
+histories_ranged low shards v (x ∷ xs) h = all_append (λ (e : Entry). (0 < e.stamp) × (e.stamp < 2 ^ 62)) x
+    (all_of xs) h.0.ranged (histories_ranged (low + 1) shards v xs h.1)
 
 -- the history at a place
-pub history_here : (low shards : ℕ) (v : View) (hs : List (List Entry)) (k : ℕ) → AreHistoriesOf low shards v hs → k < length hs → IsHistoryOf (low + k) shards v (history_at hs k)
+pub history_here : (low shards : ℕ) (v : View) (hs : List (List Entry)) (k : ℕ) → AreHistoriesOf low shards v hs
+    → k < length hs → IsHistoryOf (low + k) shards v (history_at hs k)
 history_here low shards v [] k h inside = absurd (omega arith)
-history_here low shards v (x ∷ xs) zero h inside = let here : low + 0 ≡ low = omega arith in subst (λ (s : ℕ). IsHistoryOf s shards v x) (sym here) h.0
+history_here low shards v (x ∷ xs) zero h inside = let here : low + 0
+    ≡ low = omega arith in subst (λ (s : ℕ). IsHistoryOf s shards v x) (sym here) h.0
 history_here low shards v (x ∷ xs) (suc k) h inside =
     let next : low + 1 + k ≡ low + suc k = omega arith in
-    subst (λ (s : ℕ). IsHistoryOf s shards v (history_at xs k)) next (history_here (low + 1) shards v xs k h.1 (omega arith))
+    subst (λ (s : ℕ). IsHistoryOf s shards v (history_at xs k)) next
+        (history_here (low + 1) shards v xs k h.1 (omega arith))
 
 -- members of all histories
 pub in_all : (hs : List (List Entry)) (k : ℕ) (z : Entry) → IsIn z (history_at hs k) → IsIn z (all_of hs)
@@ -134,16 +148,20 @@ history_shard shard (e ∷ f ∷ es) z h (inr rest) = history_shard shard (f ∷
 abbrev Found : List (List Entry) → ℕ → Entry → Type 0
 Found hs low z = (k : ℕ) × (k < length hs) × (z.shard ≡ low + k) × IsIn z (history_at hs k)
 
-found_next : (x : List Entry) (xs : List (List Entry)) (low : ℕ) (z : Entry) → Found xs (low + 1) z → Found (x ∷ xs) low z
+found_next : (x : List Entry) (xs : List (List Entry)) (low : ℕ) (z : Entry) → Found xs (low + 1) z
+    → Found (x ∷ xs) low z
 found_next x xs low z f = let near = f.1 in let at = f.2 in (suc (f.0), omega arith, omega arith, f.3)
 
-pub found_in : (low : ℕ) (hs : List (List Entry)) (z : Entry) → AreHistories low hs → IsIn z (all_of hs) → Found hs low z
+pub found_in : (low : ℕ) (hs : List (List Entry)) (z : Entry) → AreHistories low hs → IsIn z (all_of hs)
+    → Found hs low z
 found_in low [] z h i = absurd i
 found_in low (x ∷ xs) z h i =
-    ⊎_elim (λ (j : IsIn z x). (0, omega arith, (let here : low + 0 ≡ low = omega arith in history_shard low x z h.0 j ∙ sym here), j))
+    ⊎_elim (λ (j : IsIn z x). (0, omega arith, (let here : low + 0 ≡ low = omega arith in history_shard low x z h.0 j
+        ∙ sym here), j))
     (λ (j : IsIn z (all_of xs)). found_next x xs low z (found_in (low + 1) xs z h.1 j)) (in_either z x (all_of xs) i)
 
-pub in_own : (hs : List (List Entry)) (z : Entry) → AreHistories 0 hs → IsIn z (all_of hs) → (z.shard < length hs) × IsIn z (history_at hs z.shard)
+pub in_own : (hs : List (List Entry)) (z : Entry) → AreHistories 0 hs → IsIn z (all_of hs)
+    → (z.shard < length hs) × IsIn z (history_at hs z.shard)
 in_own hs z h i =
     let f = found_in 0 hs z h i in
     let is : f.0 ≡ z.shard = (let at = f.2 in omega arith) in
@@ -159,9 +177,12 @@ same_test a b =
 
 pub lines_part : (i : ℕ) (es : List Entry) → lines_of (suc i) (map line_of es) ≡ map line_of (incarnation_part i es)
 lines_part i [] = refl
-lines_part i (e ∷ es) = ap (λ (b : Bool). if b then line_of e ∷ lines_of (suc i) (map line_of es) else lines_of (suc i) (map line_of es)) (same_test e.incarnation i) ∙ by_test (e.incarnation == i) (lines_part i es)
+lines_part i (e ∷ es) = ap (λ (b : Bool). if b then line_of e ∷ lines_of (suc i) (map line_of es) else lines_of
+    (suc i) (map line_of es)) (same_test e.incarnation i) ∙ by_test (e.incarnation == i) (lines_part i es)
   where
-    by_test : (b : Bool) → lines_of (suc i) (map line_of es) ≡ map line_of (incarnation_part i es) → (if b then line_of e ∷ lines_of (suc i) (map line_of es) else lines_of (suc i) (map line_of es)) ≡ map line_of (cond b (e ∷ incarnation_part i es) (incarnation_part i es))
+    by_test : (b : Bool) → lines_of (suc i) (map line_of es) ≡ map line_of (incarnation_part i es)
+        → (if b then line_of e ∷ lines_of (suc i) (map line_of es) else lines_of (suc i) (map line_of es))
+            ≡ map line_of (cond b (e ∷ incarnation_part i es) (incarnation_part i es))
     by_test true rest = ap (λ (ls : List Line). line_of e ∷ ls) rest
     by_test false rest = rest
 
@@ -169,12 +190,15 @@ pub noted_part : (k : ℕ) (es : List Entry) → part_of k (map noted_of es) ≡
 noted_part k [] = refl
 noted_part k (e ∷ es) = by_test (e.shard == k) (noted_part k es)
   where
-    by_test : (b : Bool) → part_of k (map noted_of es) ≡ map line_of (shard_part k es) → (if b then line_of e ∷ part_of k (map noted_of es) else part_of k (map noted_of es)) ≡ map line_of (cond b (e ∷ shard_part k es) (shard_part k es))
+    by_test : (b : Bool) → part_of k (map noted_of es) ≡ map line_of (shard_part k es)
+        → (if b then line_of e ∷ part_of k (map noted_of es) else part_of k (map noted_of es))
+            ≡ map line_of (cond b (e ∷ shard_part k es) (shard_part k es))
     by_test true rest = ap (λ (ls : List Line). line_of e ∷ ls) rest
     by_test false rest = rest
 
 -- an incarnation's entries in a shard are that shard's part of its list
-pub part_here : (shard shards i : ℕ) (v : View) (h : List Entry) → IsHistoryOf shard shards v h → list_in (suc i) v ≡ map noted_of (list_of i v) → incarnation_part i h ≡ shard_part shard (list_of i v)
+pub part_here : (shard shards i : ℕ) (v : View) (h : List Entry) → IsHistoryOf shard shards v h
+    → list_in (suc i) v ≡ map noted_of (list_of i v) → incarnation_part i h ≡ shard_part shard (list_of i v)
 part_here shard shards i v h is written =
     let both : map line_of (incarnation_part i h) ≡ map line_of (shard_part shard (list_of i v)) =
     sym (lines_part i h) ∙ is.parts (suc i) ∙ ap (part_of shard) written ∙ noted_part shard (list_of i v) in

@@ -12,39 +12,32 @@ use Rattle.slnf_turns.specs.declared.views.View.{View}
 use Rattle.slnf_turns.specs.Views.{Begins, list_in, kept_of}
 use Rattle.slnf_store.specs.Lines.{noted_of}
 use Rattle.slnf_store.specs.Passes.{entries_of, entries_seen, greatest_listed, AreStamped, AreEntriesOf, IsOwnList, IsJoined}
-use Rattle.slnf_store.specs.Closes.{history_at, incarnation_part, list_of}
+use Rattle.slnf_store.specs.Closes.{history_at, incarnation_part, list_of, IsListIn, SawPrefixes}
 use Rattle.slnf_store.proofs.Joins.{rises_stamped}
-use Rattle.slnf_store.proofs.Grown.{stamped_one}
-use Rattle.slnf_store.proofs.Members.{IsIn, all_in, in_permuted, in_filtered, filtered_in, Strong, strong_order, strong_rises, strong_filtered, same_members}
+use Rattle.slnf_store.proofs.Grown.{stamped_within}
+use Rattle.slnf_merge.proofs.Laws.{IsIn, in_permuted, Strong, strong_from_order, strong_filtered, same_members}
+use Rattle.slnf_store.proofs.Members.{all_in, all_swap, in_filtered, filtered_in, strong_rises}
 use Rattle.slnf_store.proofs.Histories.{IsHistoryOf, AreHistoriesOf, histories_in, history_here, in_all, in_own, part_here}
 
--- all of the one for each of the other
-pub all_swap : {A : Type 0} (Q : ℕ → Type 0) (P : ℕ → A → Type 0) (xs : List A) → ((k : ℕ) → Q k → AllByRecursion (P k) xs) → AllByRecursion (λ (x : A). (k : ℕ) → Q k → P k x) xs
-all_swap Q P [] f = tt
-all_swap Q P (x ∷ xs) f = ((λ k q. (f k q).0), all_swap Q P xs (λ k q. (f k q).1))
-
-pub all_both : {A : Type 0} (P Q R : A → Type 0) (xs : List A) → ((x : A) → P x → Q x → R x) → AllByRecursion P xs → AllByRecursion Q xs → AllByRecursion R xs
-all_both P Q R [] f p q = tt
-all_both P Q R (x ∷ xs) f p q = (f x p.0 q.0, all_both P Q R xs f p.1 q.1)
-
 -- what a joined pass saw of each shard
-pub seen_by : (shards : ℕ) (v : View) (hs : List (List Entry)) → length hs ≡ shards → AreHistoriesOf 0 shards v hs → AllByRecursion (λ (x : Joined). (k : ℕ) → k < shards → Begins (entries_seen x.seen k) (history_at hs k)) v.joined
+pub seen_by : (shards : ℕ) (v : View) (hs : List (List Entry)) → length hs ≡ shards → AreHistoriesOf 0 shards v hs
+    → AllByRecursion (SawPrefixes shards hs) v.joined
 seen_by shards v hs count h =
-    all_swap (λ (k : ℕ). k < shards) (λ (k : ℕ) (x : Joined). Begins (entries_seen x.seen k) (history_at hs k)) v.joined
-    (λ k inside. let at : 0 + k ≡ k = omega arith in (subst (λ (s : ℕ). IsHistoryOf s shards v (history_at hs k)) at (history_here 0 shards v hs k h (omega arith))).seen)
-
-stamped_within : (shards number : ℕ) (f g : ℕ → List Entry) (clock : ℕ) (es : List Entry) → ((k : ℕ) → k < shards → Begins (f k) (g k)) → AreEntriesOf shards number es → AreStamped f clock es → AreStamped g clock es
-stamped_within shards number f g clock [] b o s = tt
-stamped_within shards number f g clock (e ∷ es) b o s =
-    (stamped_one clock e (f e.shard) (g e.shard) (b e.shard o.0.1) s.0, stamped_within shards number f g e.stamp es b o.1 s.1)
+    all_swap (λ (k : ℕ). k < shards) (λ (k : ℕ) (x : Joined). Begins (entries_seen x.seen k)
+        (history_at hs k)) v.joined
+    (λ k inside. let at : 0 + k ≡ k = omega arith in
+        (subst (λ (s : ℕ). IsHistoryOf s shards v (history_at hs k)) at
+        (history_here 0 shards v hs k h (omega arith))).seen)
 
 -- a list of a joined pass, in the histories themselves
-pub listed_at : (shards : ℕ) (hs : List (List Entry)) (x : Joined) → IsJoined shards x → ((k : ℕ) → k < shards → Begins (entries_seen x.seen k) (history_at hs k)) → IsOwnList shards x.listed.number x.told x.listed.lines (history_at hs)
+pub listed_at : (shards : ℕ) (hs : List (List Entry)) (x : Joined) → IsJoined shards x → SawPrefixes shards hs x
+    → IsListIn shards hs x
 listed_at shards hs x j b =
     record {
       written = j.written;
       own = j.own;
-      stamped = stamped_within shards x.listed.number (entries_seen x.seen) (history_at hs) (greatest_listed x.told) (entries_of x.listed.lines) b j.own j.stamped;
+      stamped = stamped_within shards x.listed.number (entries_seen x.seen) (history_at hs) (greatest_listed x.told)
+          (entries_of x.listed.lines) b j.own j.stamped;
     }
 
 -- what holds of the list of a number
@@ -57,48 +50,68 @@ good_none : (shards number : ℕ) → IsGood shards number []
 good_none shards number = record { written = refl; own = tt; strong = tt }
 
 good_joined : (shards : ℕ) (x : Joined) → IsJoined shards x → IsGood shards x.listed.number x.listed.lines
-good_joined shards x j = record { written = j.written; own = j.own; strong = strong_rises (greatest_listed x.told) (entries_of x.listed.lines) (rises_stamped (entries_seen x.seen) (greatest_listed x.told) (entries_of x.listed.lines) j.stamped) }
+good_joined shards x j = record { written = j.written; own = j.own; strong = strong_rises (greatest_listed x.told)
+    (entries_of x.listed.lines) (rises_stamped (entries_seen x.seen) (greatest_listed x.told)
+    (entries_of x.listed.lines) j.stamped) }
 
-pick_good : (shards number : ℕ) (x : Joined) (rest : List Noted) (b : Bool) → (b ≡ true → x.listed.number ≡ number) → IsJoined shards x → IsGood shards number rest → IsGood shards number (if b then x.listed.lines else rest)
-pick_good shards number x rest true is j good = subst (λ (n : ℕ). IsGood shards n x.listed.lines) (is refl) (good_joined shards x j)
+pick_good : (shards number : ℕ) (x : Joined) (rest : List Noted) (b : Bool) → (b ≡ true → x.listed.number ≡ number)
+    → IsJoined shards x → IsGood shards number rest → IsGood shards number (if b then x.listed.lines else rest)
+pick_good shards number x rest true is j good = subst (λ (n : ℕ). IsGood shards n x.listed.lines) (is refl)
+    (good_joined shards x j)
 pick_good shards number x rest false is j good = good
 
-good_kept : (shards number : ℕ) (js : List Joined) → AllByRecursion (IsJoined shards) js → IsGood shards number (kept_of number js)
+good_kept : (shards number : ℕ) (js : List Joined) → AllByRecursion (IsJoined shards) js
+    → IsGood shards number (kept_of number js)
 good_kept shards number [] h = good_none shards number
-good_kept shards number (x ∷ xs) h = pick_good shards number x (kept_of number xs) (x.listed.number == number) (λ t. eqb-true x.listed.number number t) h.0 (good_kept shards number xs h.1)
+good_kept shards number (x ∷ xs) h = pick_good shards number x (kept_of number xs) (x.listed.number == number)
+    (λ t. eqb-true x.listed.number number t) h.0 (good_kept shards number xs h.1)
 
-pub good_list : (shards i : ℕ) (v : View) → AllByRecursion (IsJoined shards) v.joined → IsGood shards (suc i) (list_in (suc i) v)
+pub good_list : (shards i : ℕ) (v : View) → AllByRecursion (IsJoined shards) v.joined → IsGood shards (suc i)
+    (list_in (suc i) v)
 good_list shards i v h = good_kept shards (suc i) v.joined h
 
-module _ (shards : ℕ) (v : View) (hs : List (List Entry)) (count : length hs ≡ shards) (h : AreHistoriesOf 0 shards v hs) (joined : AllByRecursion (IsJoined shards) v.joined) where
+module _ (shards : ℕ) (v : View) (hs : List (List Entry)) (count : length hs ≡ shards)
+    (h : AreHistoriesOf 0 shards v hs) (joined : AllByRecursion (IsJoined shards) v.joined) where
   part_at : (i k : ℕ) → k < shards → incarnation_part i (history_at hs k) ≡ shard_part k (list_of i v)
   part_at i k inside =
       let at : 0 + k ≡ k = omega arith in
-      part_here k shards i v (history_at hs k) (subst (λ (s : ℕ). IsHistoryOf s shards v (history_at hs k)) at (history_here 0 shards v hs k h (omega arith))) (good_list shards i v joined).written
+      part_here k shards i v (history_at hs k) (subst (λ (s : ℕ). IsHistoryOf s shards v (history_at hs k)) at
+          (history_here 0 shards v hs k h (omega arith))) (good_list shards i v joined).written
 
   -- an entry of the histories stands in its incarnation's list, and the other way round
   pub to_list : (z : Entry) → IsIn z (all_of hs) → IsIn z (list_of z.incarnation v)
   to_list z i =
       let at = in_own hs z (histories_in 0 shards v hs h) i in
-      let here : IsIn z (incarnation_part z.incarnation (history_at hs z.shard)) = in_filtered (λ (e : Entry). e.incarnation == z.incarnation) z (history_at hs z.shard) (eq-eqb z.incarnation z.incarnation refl) at.1 in
-      let there : IsIn z (shard_part z.shard (list_of z.incarnation v)) = subst (λ (l : List Entry). IsIn z l) (part_at z.incarnation z.shard (subst (λ (n : ℕ). z.shard < n) count at.0)) here in
+      let here : IsIn z (incarnation_part z.incarnation (history_at hs z.shard)) = in_filtered
+          (λ (e : Entry). e.incarnation == z.incarnation) z (history_at hs z.shard)
+          (eq-eqb z.incarnation z.incarnation refl) at.1 in
+      let there : IsIn z (shard_part z.shard (list_of z.incarnation v)) = subst (λ (l : List Entry). IsIn z l)
+          (part_at z.incarnation z.shard (subst (λ (n : ℕ). z.shard < n) count at.0)) here in
       (filtered_in (λ (e : Entry). e.shard == z.shard) z (list_of z.incarnation v) there).1
 
   pub from_list : (i : ℕ) (z : Entry) → IsIn z (list_of i v) → (z.incarnation ≡ i) × IsIn z (all_of hs)
   from_list i z m =
-      let of = all_in (λ (e : Entry). (e.incarnation + 1 ≡ suc i) × (e.shard < shards)) z (list_of i v) (good_list shards i v joined).own m in
+      let of = all_in (λ (e : Entry). (e.incarnation + 1 ≡ suc i) × (e.shard < shards)) z (list_of i v)
+          (good_list shards i v joined).own m in
       let who : z.incarnation ≡ i = (let one = of.0 in omega arith) in
-      let there : IsIn z (shard_part z.shard (list_of i v)) = in_filtered (λ (e : Entry). e.shard == z.shard) z (list_of i v) (eq-eqb z.shard z.shard refl) m in
-      let here : IsIn z (incarnation_part i (history_at hs z.shard)) = subst (λ (l : List Entry). IsIn z l) (sym (part_at i z.shard of.1)) there in
+      let there : IsIn z (shard_part z.shard (list_of i v)) = in_filtered (λ (e : Entry). e.shard == z.shard) z
+          (list_of i v) (eq-eqb z.shard z.shard refl) m in
+      let here : IsIn z (incarnation_part i (history_at hs z.shard)) = subst (λ (l : List Entry). IsIn z l)
+          (sym (part_at i z.shard of.1)) there in
       (who, in_all hs z.shard z (filtered_in (λ (e : Entry). e.incarnation == i) z (history_at hs z.shard) here).1)
 
   -- the merged list's part is the list
-  pub part_merged : (i : ℕ) (merged : List Entry) → IsPermutation (all_of hs) merged → InOrder merged → incarnation_part i merged ≡ list_of i v
+  pub part_merged : (i : ℕ) (merged : List Entry) → IsPermutation (all_of hs) merged → InOrder merged
+      → incarnation_part i merged ≡ list_of i v
   part_merged i merged same order =
-      same_members (incarnation_part i merged) (list_of i v) (strong_filtered (λ (e : Entry). e.incarnation == i) merged (strong_order merged order)) (good_list shards i v joined).strong
+      same_members (incarnation_part i merged) (list_of i v)
+          (strong_filtered (λ (e : Entry). e.incarnation == i) merged (strong_from_order merged order))
+          (good_list shards i v joined).strong
       (λ z m.
       let f = filtered_in (λ (e : Entry). e.incarnation == i) z merged m in
-      subst (λ (n : ℕ). IsIn z (list_of n v)) (eqb-true z.incarnation i f.0) (to_list z (in_permuted z merged (all_of hs) (IsPermutation-sym (all_of hs) merged same) f.1)))
+      subst (λ (n : ℕ). IsIn z (list_of n v)) (eqb-true z.incarnation i f.0)
+          (to_list z (in_permuted z merged (all_of hs) (IsPermutation-sym (all_of hs) merged same) f.1)))
       (λ z m.
       let f = from_list i z m in
-      in_filtered (λ (e : Entry). e.incarnation == i) z merged (eq-eqb z.incarnation i f.0) (in_permuted z (all_of hs) merged same f.1))
+      in_filtered (λ (e : Entry). e.incarnation == i) z merged (eq-eqb z.incarnation i f.0)
+          (in_permuted z (all_of hs) merged same f.1))

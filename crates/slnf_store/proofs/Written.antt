@@ -49,11 +49,14 @@ pub own_noted : (shard : ℕ) (es : List Entry) → entries_of (noted shard (map
 own_noted shard [] = refl
 own_noted shard (e ∷ es) = λ i. entry_back e i ∷ own_noted shard es i
 
-pub own_more : (xs : List Noted) (shard : ℕ) (es : List Entry) → entries_of (xs ++ noted shard (map line_of es)) ≡ entries_of xs ++ es
-own_more xs shard es = own_append xs (noted shard (map line_of es)) ∙ ap (λ (ys : List Entry). entries_of xs ++ ys) (own_noted shard es)
+pub own_more : (xs : List Noted) (shard : ℕ) (es : List Entry)
+    → entries_of (xs ++ noted shard (map line_of es)) ≡ entries_of xs ++ es
+own_more xs shard es = own_append xs (noted shard (map line_of es))
+    ∙ ap (λ (ys : List Entry). entries_of xs ++ ys) (own_noted shard es)
 
 -- entries of one shard, noted there
-pub noted_same : (shard : ℕ) (es : List Entry) → AllByRecursion (λ (e : Entry). e.shard ≡ shard) es → noted shard (map line_of es) ≡ map noted_of es
+pub noted_same : (shard : ℕ) (es : List Entry) → AllByRecursion (λ (e : Entry). e.shard ≡ shard) es
+    → noted shard (map line_of es) ≡ map noted_of es
 noted_same shard [] h = refl
 noted_same shard (e ∷ es) h = λ i. record { shard = sym h.0 i; line = line_of e } ∷ noted_same shard es h.1 i
 
@@ -61,6 +64,7 @@ pub lines_append : (xs ys : List Entry) → map line_of (xs ++ ys) ≡ map line_
 lines_append xs ys = map-append line_of xs ys
 
 -- entries of one incarnation are lines of its number
-pub lines_of_number : (number : ℕ) (es : List Entry) → AllByRecursion (λ (e : Entry). e.incarnation + 1 ≡ number) es → AllOf number (map line_of es)
+pub lines_of_number : (number : ℕ) (es : List Entry) → AllByRecursion (λ (e : Entry). e.incarnation + 1 ≡ number) es
+    → AllOf number (map line_of es)
 lines_of_number number [] h = tt
 lines_of_number number (e ∷ es) h = (h.0, lines_of_number number es h.1)

@@ -11,8 +11,8 @@ use slnf_base::NoMemory;
 use slnf_merge::merge;
 use std::alloc::Global;
 
-// What the clauses say of the two passes of a store: its merged histories are legal, and each incarnation's part of
-// them is the list that its pass kept.
+// What the clauses say together of the two passes of a store: its merged histories are legal, and each incarnation's
+// part of them is the list that its pass kept.
 pub(super) fn merged_parts(
     alloc: Global,
     store: Store,
