@@ -50,21 +50,21 @@ more_with : (incarnation clock : ℕ) (old : Kept) (asks : List Ask) (i now spar
     → r ≡ (entry_after kept.entries old.shard incarnation now a.item a.request).reply
     → SoFar incarnation clock old asks (i + 1)
     (max (last_stamp 0 kept.entries) now + 1) spare'
-        (with_entry kept (entry_after kept.entries old.shard incarnation now a.item a.request))
+    (with_entry kept (entry_after kept.entries old.shard incarnation now a.item a.request))
     (set replies i r)
 more_with incarnation clock old asks i now spare spare' kept replies a r s inside d less is =
     let e = entry_after kept.entries old.shard incarnation now a.item a.request in
     let rest = entries_after (kept.entries ++ e ∷ []) old.shard incarnation (max (last_stamp 0 kept.entries) now + 1)
-        (drop (i + 1) asks) in
+    (drop (i + 1) asks) in
     let all : kept.entries ++ e ∷ rest ≡ old.entries ++ entries_after old.entries old.shard incarnation clock asks =
     subst (λ (ds : List Ask). kept.entries ++ entries_after kept.entries old.shard incarnation now ds
-        ≡ old.entries ++ entries_after old.entries old.shard incarnation clock asks) d s.entries in
+    ≡ old.entries ++ entries_after old.entries old.shard incarnation clock asks) d s.entries in
     let told : take i replies ++ e.reply ∷ map reply_in rest
-        ≡ map reply_in (entries_after old.entries old.shard incarnation clock asks) =
+    ≡ map reply_in (entries_after old.entries old.shard incarnation clock asks) =
     subst (λ (ds : List Ask). take i replies ++ map reply_in (entries_after kept.entries old.shard incarnation now ds)
-        ≡ map reply_in (entries_after old.entries old.shard incarnation clock asks)) d s.replied in
+    ≡ map reply_in (entries_after old.entries old.shard incarnation clock asks)) d s.replied in
     let grew : take (i + 1) (set replies i r) ≡ take i replies ++ e.reply ∷ [] = take_more_set replies i r
-        (let c = s.count in omega arith) ∙ ap (λ (x : Reply). take i replies ++ x ∷ []) is in
+    (let c = s.count in omega arith) ∙ ap (λ (x : Reply). take i replies ++ x ∷ []) is in
     let many : length (set replies i r) ≡ length replies = length-set replies i r in
     record {
       shard = s.shard;
@@ -90,22 +90,22 @@ pub so_far_more : (incarnation clock : ℕ) (old : Kept) (asks : List Ask) (i no
 so_far_more incarnation clock old asks i now next spare spare' kept kept' replies a d r s inside at made stamp less is =
     let same = same_entry kept old.shard incarnation now a.item a.request s.shard s.last in
     let rest : drop i asks ≡ a ∷ drop (i + 1) asks = drop_more asks i d inside
-        ∙ ap (λ (x : Ask). x ∷ drop (i + 1) asks) (sym at) in
+    ∙ ap (λ (x : Ask). x ∷ drop (i + 1) asks) (sym at) in
     let m = more_with incarnation clock old asks i now spare spare' kept replies a r s inside rest less
-        (is ∙ ap reply_in same) in
+    (is ∙ ap reply_in same) in
     let clock' : max (last_stamp 0 kept.entries) now + 1
-        ≡ next = sym (stamp ∙ ap (λ (n : ℕ). max n now + 1) s.last) in
+    ≡ next = sym (stamp ∙ ap (λ (n : ℕ). max n now + 1) s.last) in
     let kept'' : with_entry kept (entry_after kept.entries old.shard incarnation now a.item a.request)
-        ≡ kept' = sym (made ∙ ap (with_entry kept) same) in
+    ≡ kept' = sym (made ∙ ap (with_entry kept) same) in
     subst (λ (x : ℕ × Kept). SoFar incarnation clock old asks (i + 1) x.0 spare' x.1 (set replies i r))
-        (λ j. (clock' j, kept'' j)) m
+    (λ j. (clock' j, kept'' j)) m
 
 -- all of them
 abbrev pub Done : ℕ → ℕ → Kept → List Ask → ℕ → Kept → List Reply → Type 0
 Done incarnation clock old asks now kept replies =
     (kept.entries ≡ old.entries ++ entries_after old.entries old.shard incarnation clock asks)
-        × (replies ≡ map reply_in (entries_after old.entries old.shard incarnation clock asks))
-        × (now ≡ last_stamp clock (entries_after old.entries old.shard incarnation clock asks))
+    × (replies ≡ map reply_in (entries_after old.entries old.shard incarnation clock asks))
+    × (now ≡ last_stamp clock (entries_after old.entries old.shard incarnation clock asks))
 
 pub so_far_all : (incarnation clock : ℕ) (old : Kept) (asks : List Ask) (i now spare : ℕ) (kept : Kept)
     (replies : List Reply) → SoFar incarnation clock old asks i now spare kept replies → length asks ≤ i
@@ -114,12 +114,12 @@ so_far_all incarnation clock old asks i now spare kept replies s all =
     let none : drop i asks ≡ [] = drop_all i asks all in
     let whole : take i replies ≡ replies = take_all i replies (let c = s.count in omega arith) in
     let e = subst (λ (ds : List Ask). kept.entries ++ entries_after kept.entries old.shard incarnation now ds
-        ≡ old.entries ++ entries_after old.entries old.shard incarnation clock asks) none s.entries in
+    ≡ old.entries ++ entries_after old.entries old.shard incarnation clock asks) none s.entries in
     let r = subst (λ (ds : List Ask). take i replies ++ map reply_in
-        (entries_after kept.entries old.shard incarnation now ds)
-        ≡ map reply_in (entries_after old.entries old.shard incarnation clock asks)) none s.replied in
+    (entries_after kept.entries old.shard incarnation now ds)
+    ≡ map reply_in (entries_after old.entries old.shard incarnation clock asks)) none s.replied in
     let t = subst (λ (ds : List Ask). last_stamp now (entries_after kept.entries old.shard incarnation now ds)
-        ≡ last_stamp clock (entries_after old.entries old.shard incarnation clock asks)) none s.stamp in
+    ≡ last_stamp clock (entries_after old.entries old.shard incarnation clock asks)) none s.stamp in
     (sym (append-nil kept.entries) ∙ e, sym whole ∙ (sym (append-nil (take i replies)) ∙ r), t)
 
 pub all_at : (P : Ask → Type 0) (xs : List Ask) (i : ℕ) (d : Ask) → AllByRecursion P xs → i < length xs

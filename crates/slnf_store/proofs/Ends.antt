@@ -6,12 +6,10 @@ use Rattle.slnf_access.specs.declared.requests.Entry.{Entry}
 use Rattle.slnf_bucket.specs.Bucket.{IsKept, RisesFrom}
 use Rattle.slnf_merge.specs.Merge.{all_of}
 use Rattle.slnf_merge.proofs.Laws.{merges_legally}
-use Rattle.slnf_turns.specs.declared.views.Joined.{Joined}
 use Rattle.slnf_turns.specs.declared.views.View.{View}
-use Rattle.slnf_turns.specs.Views.{Begins}
 use Rattle.slnf_turns.specs.Values.{AreKept, AreLast, IsLast}
 use Rattle.slnf_store.specs.declared.shards.Shard.{Shard}
-use Rattle.slnf_store.specs.Passes.{entries_of, entries_seen, greatest_listed, IsOwnList, IsJoined}
+use Rattle.slnf_store.specs.Passes.{entries_of, greatest_listed, IsJoined}
 use Rattle.slnf_store.specs.Closes.{history_at, IsListIn, SawPrefixes, IsLater, IsClosed}
 use Rattle.slnf_store.proofs.Joins.{rises_stamped}
 use Rattle.slnf_store.proofs.Histories.{entries_in, lines_in, place_of, places_of, AreHistoriesOf, from_last, histories_in, histories_own, histories_legal, histories_ranged}
@@ -30,7 +28,7 @@ closed_with shards v hs count h joined kept =
     let seen = seen_by shards v hs count h in
     let lists : AllByRecursion (IsListIn shards hs) v.joined =
     all_both (IsJoined shards) (SawPrefixes shards hs) (IsListIn shards hs) v.joined
-        (λ x j b. listed_at shards hs x j b) joined seen in
+    (λ x j b. listed_at shards hs x j b) joined seen in
     record {
       count = count;
       in_place = histories_in 0 shards v hs h;
@@ -46,8 +44,8 @@ closed_with shards v hs count h joined kept =
       seen = seen;
       later = all_map (IsListIn shards hs) IsLater v.joined
           (λ x l. rises_above (greatest_listed x.told) (greatest_listed x.told) (entries_of x.listed.lines)
-              (omega arith) (rises_stamped (history_at hs) (greatest_listed x.told)
-              (entries_of x.listed.lines) l.stamped)) lists;
+          (omega arith) (rises_stamped (history_at hs) (greatest_listed x.told)
+          (entries_of x.listed.lines) l.stamped)) lists;
       ranged = histories_ranged 0 shards v hs h;
       most = stands_most (all_of hs) (stands shards v hs count h joined lists kept);
     }
@@ -59,5 +57,5 @@ pub closed : (shards : ℕ) (v : View) (bs : List Shard) → length bs ≡ shard
 closed shards v bs count last kept joined told =
     closed_with shards v (map entries_in bs) (length-map bs entries_in ∙ count)
     (from_last 0 shards v bs (λ k b is. let at : 0 + k
-        ≡ k = omega arith in subst (λ (j : ℕ). IsLast lines_in place_of places_of shards v j b) (sym at)
-        (last k b is)) kept) joined told
+    ≡ k = omega arith in subst (λ (j : ℕ). IsLast lines_in place_of places_of shards v j b) (sym at)
+    (last k b is)) kept) joined told

@@ -1,7 +1,8 @@
 -- A pass's list grows by the entries of a turn, and keeps what holds of each pass.
-use Rattle.std.proofs.Common.{◌≡◌, ◌≢◌, ℕ, ◌+◌, ◌-◌, ◌<◌, ◌^◌, ◌==◌, if◌then◌else◌, max, Bool, true, false, List, [], ◌∷◌, ◌++◌, map, refl, sym, ap, ◌∙◌, subst, append-nil, append_assoc, arith, eqb-true, eq-eqb}
+use Rattle.std.proofs.Common.{◌≡◌, ◌≢◌, ℕ, ◌+◌, ◌-◌, ◌<◌, ◌^◌, ◌==◌, if◌then◌else◌, max, Bool, true, false, List, [], ◌∷◌, ◌++◌, map, length, refl, sym, ap, ◌∙◌, subst, append_assoc, arith, eqb-true, eq-eqb}
 use mathlib.Core.List.{map-append}
 use Rattle.std.specs.List.{AllByRecursion}
+use Rattle.atomic_table.specs.Seated.{TableId}
 use Rattle.slnf_access.specs.declared.requests.Entry.{Entry}
 use Rattle.slnf_bucket.specs.Bucket.{last_stamp}
 use Rattle.slnf_turns.specs.declared.views.Noted.{Noted}
@@ -77,7 +78,7 @@ seen_turned shard earlier more v w t k = ap (map entry_of) (t.seen k) ∙ by_tes
   where
     by_test : (b : Bool)
         → map entry_of (if b then map line_of (earlier ++ more) else seen_of k v.seen)
-            ≡ (if b then earlier ++ more else entries_seen v.seen k)
+        ≡ (if b then earlier ++ more else entries_seen v.seen k)
     by_test true = entries_back (earlier ++ more)
     by_test false = refl
 
@@ -92,7 +93,7 @@ pub seen_grown : (shard : ℕ) (earlier more : List Entry) (v w : View) → Take
 seen_grown shard earlier more v w t k =
     subst (λ (l : List Entry). Begins (entries_seen v.seen k) l) (sym (seen_turned shard earlier more v w t k))
     (grown_if shard k (earlier ++ more) v (k == shard) (λ e. eqb-true k shard e)
-        (begins_more (entries_seen v.seen shard) earlier more (begins_back (seen_of shard v.seen) earlier t.grown)))
+    (begins_more (entries_seen v.seen shard) earlier more (begins_back (seen_of shard v.seen) earlier t.grown)))
 
 seen_here : (shard : ℕ) (earlier more : List Entry) (v w : View) → TakesTurn shard earlier more v w
     → entries_seen w.seen shard ≡ earlier ++ more
@@ -108,31 +109,31 @@ list_turned : (shards shard : ℕ) (earlier more : List Entry) (v w : View) → 
     → IsOwnList shards v.number v.told (v.own ++ noted shard (map line_of more)) (entries_seen w.seen)
 list_turned shards shard earlier more v w inside t m l =
     let own : entries_of (v.own ++ noted shard (map line_of more))
-        ≡ entries_of v.own ++ more = own_more v.own shard more in
+    ≡ entries_of v.own ++ more = own_more v.own shard more in
     let here = made_here shard v.number earlier _ more m in
     record {
       written =
           ap (λ (xs : List Noted). xs ++ noted shard (map line_of more)) l.written
-              ∙ ap (λ (ys : List Noted). map noted_of (entries_of v.own) ++ ys) (noted_same shard more here)
+          ∙ ap (λ (ys : List Noted). map noted_of (entries_of v.own) ++ ys) (noted_same shard more here)
           ∙ sym (map-append noted_of (entries_of v.own) more) ∙ ap (map noted_of) (sym own);
       own = subst (λ (es : List Entry). AreEntriesOf shards v.number es) (sym own)
           (all_append (λ (e : Entry). (e.incarnation + 1 ≡ v.number) × (e.shard < shards))
           (entries_of v.own) more l.own (made_of shards shard v.number earlier _ more inside m));
       stamped = subst (λ (es : List Entry). AreStamped (entries_seen w.seen) (greatest_listed v.told) es) (sym own)
           (stamped_append (entries_seen w.seen) (greatest_listed v.told) (entries_of v.own) more
-              (stamped_within shards v.number (entries_seen v.seen) (entries_seen w.seen) (greatest_listed v.told)
-              (entries_of v.own) (λ k _. seen_grown shard earlier more v w t k) l.own l.stamped)
+          (stamped_within shards v.number (entries_seen v.seen) (entries_seen w.seen) (greatest_listed v.told)
+          (entries_of v.own) (λ k _. seen_grown shard earlier more v w t k) l.own l.stamped)
           (made_stamped (entries_seen w.seen) shard v.number earlier _ more (seen_here shard earlier more v w t) m));
     }
 
 -- a pass after a turn
-pub pass_turned : (shards shard clock : ℕ) (earlier more : List Entry) (v w : View) → v.number ≢ 0 → shard < shards
+pass_turned : (shards shard clock : ℕ) (earlier more : List Entry) (v w : View) → v.number ≢ 0 → shard < shards
     → IsPass shards clock v → TakesTurn shard earlier more v w → AreMade shard v.number earlier clock more
     → last_stamp clock more < 2 ^ 62 → IsPass shards (last_stamp clock more) w
 pass_turned shards shard clock earlier more v w other inside p t m below =
     let was : clock ≡ last_stamp (greatest_listed v.told) (entries_of v.own) = p.split other in
     let list = list_turned shards shard earlier more v w inside t
-        (subst (λ (n : ℕ). AreMade shard v.number earlier n more) was m) p.list in
+    (subst (λ (n : ℕ). AreMade shard v.number earlier n more) was m) p.list in
     let kin = t.kin in
     let grew : entries_of w.own ≡ entries_of v.own ++ more = ap entries_of t.own ∙ own_more v.own shard more in
     record {
@@ -146,6 +147,21 @@ pass_turned shards shard clock earlier more v w other inside p t m below =
       joined = subst (λ (js : List Joined). AllByRecursion (IsJoined shards) js) (sym kin.3) p.joined;
       below = below;
     }
+
+-- what the store keeps of a pass, after a turn
+pub kept_turned : (number splits clock shard : ℕ) (earlier more : List Entry) (was here store : TableId) (v w : View)
+    → (number ≡ v.number) × (splits ≡ length v.before) × IsPass was.slots clock v
+    → was ≡ store → here ≡ store → v.number ≢ 0 → shard < store.slots
+    → TakesTurn shard earlier more v w
+    → AreMade shard v.number earlier clock more → last_stamp clock more < 2 ^ 62
+    → (number ≡ w.number) × (splits ≡ length w.before) × IsPass here.slots (last_stamp clock more) w
+kept_turned number splits clock shard earlier more was here store v w i from to other inside t made below =
+    let p = subst (λ (z : TableId). IsPass z.slots clock v) from i.2 in
+    let q = pass_turned store.slots shard clock earlier more v w other inside p t made below in (
+      i.0 ∙ sym t.kin.0,
+      i.1 ∙ sym (ap length t.kin.2),
+      subst (λ (z : TableId). IsPass z.slots (last_stamp clock more) w) (sym to) q,
+    )
 
 -- one access in one turn
 pub one_made : (shard number : ℕ) (earlier : List Entry) (incarnation clock item : ℕ) (request : Request)
@@ -184,7 +200,7 @@ makes_access shard earlier old new number item request reply is t table clock be
     let e = entry_after earlier shard (old.known.number - 1) old.clock item request in
     let turn : TakesTurn shard earlier (e ∷ []) old.known new.known =
     subst (λ (n : ℕ). TakesTurn shard earlier (entry_after earlier shard
-        (n - 1) old.clock item request ∷ []) old.known new.known) is t in
+    (n - 1) old.clock item request ∷ []) old.known new.known) is t in
     (makes_entries shard earlier (e ∷ []) old new turn table clock below, same)
 
 pub refuses_accesses : (count shard : ℕ) (earlier : List Entry) (old new : PassState) (refusal : BucketError)

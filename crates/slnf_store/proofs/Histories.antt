@@ -129,7 +129,7 @@ history_here low shards v (x ∷ xs) zero h inside = let here : low + 0
 history_here low shards v (x ∷ xs) (suc k) h inside =
     let next : low + 1 + k ≡ low + suc k = omega arith in
     subst (λ (s : ℕ). IsHistoryOf s shards v (history_at xs k)) next
-        (history_here (low + 1) shards v xs k h.1 (omega arith))
+    (history_here (low + 1) shards v xs k h.1 (omega arith))
 
 -- members of all histories
 pub in_all : (hs : List (List Entry)) (k : ℕ) (z : Entry) → IsIn z (history_at hs k) → IsIn z (all_of hs)
@@ -156,8 +156,13 @@ pub found_in : (low : ℕ) (hs : List (List Entry)) (z : Entry) → AreHistories
     → Found hs low z
 found_in low [] z h i = absurd i
 found_in low (x ∷ xs) z h i =
-    ⊎_elim (λ (j : IsIn z x). (0, omega arith, (let here : low + 0 ≡ low = omega arith in history_shard low x z h.0 j
-        ∙ sym here), j))
+    ⊎_elim (λ (j : IsIn z x). (
+      0,
+      omega arith,
+      (let here : low + 0 ≡ low = omega arith in history_shard low x z h.0 j
+          ∙ sym here),
+      j,
+    ))
     (λ (j : IsIn z (all_of xs)). found_next x xs low z (found_in (low + 1) xs z h.1 j)) (in_either z x (all_of xs) i)
 
 pub in_own : (hs : List (List Entry)) (z : Entry) → AreHistories 0 hs → IsIn z (all_of hs)
@@ -182,7 +187,7 @@ lines_part i (e ∷ es) = ap (λ (b : Bool). if b then line_of e ∷ lines_of (s
   where
     by_test : (b : Bool) → lines_of (suc i) (map line_of es) ≡ map line_of (incarnation_part i es)
         → (if b then line_of e ∷ lines_of (suc i) (map line_of es) else lines_of (suc i) (map line_of es))
-            ≡ map line_of (cond b (e ∷ incarnation_part i es) (incarnation_part i es))
+        ≡ map line_of (cond b (e ∷ incarnation_part i es) (incarnation_part i es))
     by_test true rest = ap (λ (ls : List Line). line_of e ∷ ls) rest
     by_test false rest = rest
 
@@ -192,7 +197,7 @@ noted_part k (e ∷ es) = by_test (e.shard == k) (noted_part k es)
   where
     by_test : (b : Bool) → part_of k (map noted_of es) ≡ map line_of (shard_part k es)
         → (if b then line_of e ∷ part_of k (map noted_of es) else part_of k (map noted_of es))
-            ≡ map line_of (cond b (e ∷ shard_part k es) (shard_part k es))
+        ≡ map line_of (cond b (e ∷ shard_part k es) (shard_part k es))
     by_test true rest = ap (λ (ls : List Line). line_of e ∷ ls) rest
     by_test false rest = rest
 

@@ -1,7 +1,6 @@
 -- The root after a join: its clock is the greatest_stamp stamp in the lists that it keeps.
 use Rattle.std.proofs.Common.{◌≡◌, ◌≢◌, ℕ, ◌≤◌, max, List, [], ◌∷◌, ◌++◌, map, sym, ap, ◌∙◌, subst, arith}
 use mathlib.Core.List.{map-append}
-use Rattle.std.specs.List.{AllByRecursion}
 use Rattle.slnf_access.specs.declared.requests.Entry.{Entry}
 use Rattle.slnf_bucket.specs.Bucket.{last_stamp, RisesFrom}
 use Rattle.slnf_turns.specs.declared.views.Listed.{Listed}
@@ -33,16 +32,16 @@ clock_joined : (shards a b : ℕ) (v w : View) → v.number ≡ 0 → w.number �
     → max a b ≡ greatest_listed (map listed (v.joined ++ joined_of w ∷ []))
 clock_joined shards a b v w root other p q told =
     let all : greatest_listed (map listed (v.joined ++ joined_of w ∷ []))
-        ≡ max (greatest_listed (map listed v.joined)) (max (greatest_stamp (entries_of w.own)) 0) =
+    ≡ max (greatest_listed (map listed v.joined)) (max (greatest_stamp (entries_of w.own)) 0) =
     ap greatest_listed (map-append listed v.joined (joined_of w ∷ []))
-        ∙ latest_append (map listed v.joined) (map listed (joined_of w ∷ [])) in
+    ∙ latest_append (map listed v.joined) (map listed (joined_of w ∷ [])) in
     let was : a ≡ greatest_listed (map listed v.joined) = (p.root root).1 in
     let last : b ≡ max (greatest_listed w.told) (greatest_stamp (entries_of w.own)) = q.split other
-        ∙ last_greatest (greatest_listed w.told) (entries_of w.own)
-        (rises_stamped (entries_seen w.seen) (greatest_listed w.told) (entries_of w.own) q.list.stamped) in
+    ∙ last_greatest (greatest_listed w.told) (entries_of w.own)
+    (rises_stamped (entries_seen w.seen) (greatest_listed w.told) (entries_of w.own) q.list.stamped) in
     let within : greatest_listed w.told ≤ greatest_listed
-        (map listed (v.joined ++ joined_of w ∷ [])) = latest_begins w.told
-        (map listed (v.joined ++ joined_of w ∷ [])) told.1 in
+    (map listed (v.joined ++ joined_of w ∷ [])) = latest_begins w.told
+    (map listed (v.joined ++ joined_of w ∷ [])) told.1 in
     omega arith
 
 joined_here : (shards a b : ℕ) (v w : View) → v.number ≡ 0 → w.number ≢ 0 → IsPass shards a v → IsPass shards b w
@@ -62,4 +61,4 @@ pub pass_joined : (shards a b : ℕ) (v w u : View) → u ≡ after_join v w →
     → IsPass shards a v → IsPass shards b w → WasTold u.before u.joined w.number w.told → IsPass shards (max a b) u
 pass_joined shards a b v w u is root other p q told =
     subst (IsPass shards (max a b)) (sym is) (joined_here shards a b v w root other p q
-        (subst (λ (z : View). WasTold z.before z.joined w.number w.told) is told))
+    (subst (λ (z : View). WasTold z.before z.joined w.number w.told) is told))

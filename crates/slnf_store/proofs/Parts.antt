@@ -11,7 +11,7 @@ use Rattle.slnf_turns.specs.declared.views.Joined.{Joined}
 use Rattle.slnf_turns.specs.declared.views.View.{View}
 use Rattle.slnf_turns.specs.Views.{Begins, list_in, kept_of}
 use Rattle.slnf_store.specs.Lines.{noted_of}
-use Rattle.slnf_store.specs.Passes.{entries_of, entries_seen, greatest_listed, AreStamped, AreEntriesOf, IsOwnList, IsJoined}
+use Rattle.slnf_store.specs.Passes.{entries_of, entries_seen, greatest_listed, AreEntriesOf, IsJoined}
 use Rattle.slnf_store.specs.Closes.{history_at, incarnation_part, list_of, IsListIn, SawPrefixes}
 use Rattle.slnf_store.proofs.Joins.{rises_stamped}
 use Rattle.slnf_store.proofs.Grown.{stamped_within}
@@ -24,10 +24,10 @@ pub seen_by : (shards : ℕ) (v : View) (hs : List (List Entry)) → length hs �
     → AllByRecursion (SawPrefixes shards hs) v.joined
 seen_by shards v hs count h =
     all_swap (λ (k : ℕ). k < shards) (λ (k : ℕ) (x : Joined). Begins (entries_seen x.seen k)
-        (history_at hs k)) v.joined
+    (history_at hs k)) v.joined
     (λ k inside. let at : 0 + k ≡ k = omega arith in
-        (subst (λ (s : ℕ). IsHistoryOf s shards v (history_at hs k)) at
-        (history_here 0 shards v hs k h (omega arith))).seen)
+    (subst (λ (s : ℕ). IsHistoryOf s shards v (history_at hs k)) at
+    (history_here 0 shards v hs k h (omega arith))).seen)
 
 -- a list of a joined pass, in the histories themselves
 pub listed_at : (shards : ℕ) (hs : List (List Entry)) (x : Joined) → IsJoined shards x → SawPrefixes shards hs x
@@ -50,9 +50,13 @@ good_none : (shards number : ℕ) → IsGood shards number []
 good_none shards number = record { written = refl; own = tt; strong = tt }
 
 good_joined : (shards : ℕ) (x : Joined) → IsJoined shards x → IsGood shards x.listed.number x.listed.lines
-good_joined shards x j = record { written = j.written; own = j.own; strong = strong_rises (greatest_listed x.told)
-    (entries_of x.listed.lines) (rises_stamped (entries_seen x.seen) (greatest_listed x.told)
-    (entries_of x.listed.lines) j.stamped) }
+good_joined shards x j = record {
+  written = j.written;
+  own = j.own;
+  strong = strong_rises (greatest_listed x.told)
+      (entries_of x.listed.lines) (rises_stamped (entries_seen x.seen) (greatest_listed x.told)
+      (entries_of x.listed.lines) j.stamped);
+}
 
 pick_good : (shards number : ℕ) (x : Joined) (rest : List Noted) (b : Bool) → (b ≡ true → x.listed.number ≡ number)
     → IsJoined shards x → IsGood shards number rest → IsGood shards number (if b then x.listed.lines else rest)
@@ -76,28 +80,28 @@ module _ (shards : ℕ) (v : View) (hs : List (List Entry)) (count : length hs �
   part_at i k inside =
       let at : 0 + k ≡ k = omega arith in
       part_here k shards i v (history_at hs k) (subst (λ (s : ℕ). IsHistoryOf s shards v (history_at hs k)) at
-          (history_here 0 shards v hs k h (omega arith))) (good_list shards i v joined).written
+      (history_here 0 shards v hs k h (omega arith))) (good_list shards i v joined).written
 
   -- an entry of the histories stands in its incarnation's list, and the other way round
   pub to_list : (z : Entry) → IsIn z (all_of hs) → IsIn z (list_of z.incarnation v)
   to_list z i =
       let at = in_own hs z (histories_in 0 shards v hs h) i in
       let here : IsIn z (incarnation_part z.incarnation (history_at hs z.shard)) = in_filtered
-          (λ (e : Entry). e.incarnation == z.incarnation) z (history_at hs z.shard)
-          (eq-eqb z.incarnation z.incarnation refl) at.1 in
+      (λ (e : Entry). e.incarnation == z.incarnation) z (history_at hs z.shard)
+      (eq-eqb z.incarnation z.incarnation refl) at.1 in
       let there : IsIn z (shard_part z.shard (list_of z.incarnation v)) = subst (λ (l : List Entry). IsIn z l)
-          (part_at z.incarnation z.shard (subst (λ (n : ℕ). z.shard < n) count at.0)) here in
+      (part_at z.incarnation z.shard (subst (λ (n : ℕ). z.shard < n) count at.0)) here in
       (filtered_in (λ (e : Entry). e.shard == z.shard) z (list_of z.incarnation v) there).1
 
   pub from_list : (i : ℕ) (z : Entry) → IsIn z (list_of i v) → (z.incarnation ≡ i) × IsIn z (all_of hs)
   from_list i z m =
       let of = all_in (λ (e : Entry). (e.incarnation + 1 ≡ suc i) × (e.shard < shards)) z (list_of i v)
-          (good_list shards i v joined).own m in
+      (good_list shards i v joined).own m in
       let who : z.incarnation ≡ i = (let one = of.0 in omega arith) in
       let there : IsIn z (shard_part z.shard (list_of i v)) = in_filtered (λ (e : Entry). e.shard == z.shard) z
-          (list_of i v) (eq-eqb z.shard z.shard refl) m in
+      (list_of i v) (eq-eqb z.shard z.shard refl) m in
       let here : IsIn z (incarnation_part i (history_at hs z.shard)) = subst (λ (l : List Entry). IsIn z l)
-          (sym (part_at i z.shard of.1)) there in
+      (sym (part_at i z.shard of.1)) there in
       (who, in_all hs z.shard z (filtered_in (λ (e : Entry). e.incarnation == i) z (history_at hs z.shard) here).1)
 
   -- the merged list's part is the list
@@ -105,13 +109,13 @@ module _ (shards : ℕ) (v : View) (hs : List (List Entry)) (count : length hs �
       → incarnation_part i merged ≡ list_of i v
   part_merged i merged same order =
       same_members (incarnation_part i merged) (list_of i v)
-          (strong_filtered (λ (e : Entry). e.incarnation == i) merged (strong_from_order merged order))
-          (good_list shards i v joined).strong
+      (strong_filtered (λ (e : Entry). e.incarnation == i) merged (strong_from_order merged order))
+      (good_list shards i v joined).strong
       (λ z m.
       let f = filtered_in (λ (e : Entry). e.incarnation == i) z merged m in
       subst (λ (n : ℕ). IsIn z (list_of n v)) (eqb-true z.incarnation i f.0)
-          (to_list z (in_permuted z merged (all_of hs) (IsPermutation-sym (all_of hs) merged same) f.1)))
+      (to_list z (in_permuted z merged (all_of hs) (IsPermutation-sym (all_of hs) merged same) f.1)))
       (λ z m.
       let f = from_list i z m in
       in_filtered (λ (e : Entry). e.incarnation == i) z merged (eq-eqb z.incarnation i f.0)
-          (in_permuted z (all_of hs) merged same f.1))
+      (in_permuted z (all_of hs) merged same f.1))

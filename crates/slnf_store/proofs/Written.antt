@@ -1,5 +1,5 @@
 -- Entries that are written as lines and read back.
-use Rattle.std.proofs.Common.{◌≡◌, ℕ, ◌+◌, List, [], ◌∷◌, ◌++◌, map, refl, sym, ap, ◌∙◌}
+use Rattle.std.proofs.Common.{◌≡◌, ℕ, List, [], ◌∷◌, ◌++◌, map, refl, sym, ap, ◌∙◌}
 use mathlib.Core.List.{map-append}
 use Rattle.std.specs.List.{AllByRecursion}
 use Rattle.slnf_access.specs.declared.requests.Entry.{Entry}
@@ -10,7 +10,7 @@ use Rattle.slnf_access.specs.declared.requests.Reply.TheVariants.{Done, Found, A
 use Rattle.slnf_access.specs.Map.{key_of}
 use Rattle.slnf_turns.specs.declared.views.Line.{Line}
 use Rattle.slnf_turns.specs.declared.views.Noted.{Noted}
-use Rattle.slnf_turns.specs.Views.{Begins, noted, AllOf}
+use Rattle.slnf_turns.specs.Views.{Begins, noted}
 use Rattle.slnf_store.specs.Lines.{request_kind, request_version, request_value, reply_kind, reply_number, reply_value, line_of, noted_of, request_from, reply_from, entry_of}
 use Rattle.slnf_store.specs.Passes.{entries_of}
 
@@ -62,9 +62,3 @@ noted_same shard (e ∷ es) h = λ i. record { shard = sym h.0 i; line = line_of
 
 pub lines_append : (xs ys : List Entry) → map line_of (xs ++ ys) ≡ map line_of xs ++ map line_of ys
 lines_append xs ys = map-append line_of xs ys
-
--- entries of one incarnation are lines of its number
-pub lines_of_number : (number : ℕ) (es : List Entry) → AllByRecursion (λ (e : Entry). e.incarnation + 1 ≡ number) es
-    → AllOf number (map line_of es)
-lines_of_number number [] h = tt
-lines_of_number number (e ∷ es) h = (h.0, lines_of_number number es h.1)

@@ -34,14 +34,14 @@ entries_after earlier shard incarnation clock [] = []
 entries_after earlier shard incarnation clock (a ∷ asks) =
     entry_after earlier shard incarnation clock a.item a.request
     ∷ entries_after (earlier ++ entry_after earlier shard incarnation clock a.item a.request ∷ [])
-        shard incarnation (max (last_stamp 0 earlier) clock + 1) asks
+    shard incarnation (max (last_stamp 0 earlier) clock + 1) asks
 
 -- The refusal of so many accesses, the first of which met this greater clock, is for want of stamps exactly where one
 -- of them would meet 2^62 - 1.
 abbrev pub IsRefusal : ℕ → ℕ → BucketError → Type 0
 IsRefusal count greater refusal =
     (last : ℕ) → (refusal ≡ StampsSpent last)
-        ↔ ((last ≡ 2 ^ 62 - 1) × (before : ℕ) × (before < count) × (greater + before ≡ last))
+    ↔ ((last ≡ 2 ^ 62 - 1) × (before : ℕ) × (before < count) × (greater + before ≡ last))
 
 -- what a turn at a shard with this history does, in which these entries are made
 pub record TakesTurn (shard : ℕ) (earlier more : List Entry) (v w : View) : Type 0 where
@@ -69,7 +69,7 @@ pub record MakesEntries (shard : ℕ) (earlier more : List Entry) (old new : Pas
 abbrev pub MakesAccess : ℕ → List Entry → (old new : PassState) → ℕ → Request → Reply → Type 0
 MakesAccess shard earlier old new item request reply =
     MakesEntries shard earlier
-        (entry_after earlier shard (old.known.number - 1) old.clock item request ∷ []) old new
+    (entry_after earlier shard (old.known.number - 1) old.clock item request ∷ []) old new
     × (reply ≡ (entry_after earlier shard (old.known.number - 1) old.clock item request).reply)
 
 -- so many accesses of this pass made no entry, for this reason

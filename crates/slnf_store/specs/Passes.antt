@@ -64,7 +64,8 @@ AreEntriesOf shards number es = AllByRecursion (λ (e : Entry). (e.incarnation +
 
 -- The list of a number's pass, which was told these lists at its split, where the shards' histories are these: its
 -- lines say entries of its incarnation, each stamped in its shard's history.
-pub record IsOwnList (shards number : ℕ) (told : List Listed) (lines : List Noted) (histories : ℕ → List Entry) : Type 0 where
+pub record IsOwnList (shards number : ℕ) (told : List Listed) (lines : List Noted)
+    (histories : ℕ → List Entry) : Type 0 where
   pub written : lines ≡ map noted_of (entries_of lines)
   pub own : AreEntriesOf shards number (entries_of lines)
   pub stamped : AreStamped histories (greatest_listed told) (entries_of lines)

@@ -39,7 +39,8 @@ fn sure_accesses(bucket: &mut Bucket, caller: &Caller, asks: &[Ask], replies: &m
     requires count { length asks.now ≡ length replies.old }
     ensures entries { bucket.new.kept.entries ≡ bucket.old.kept.entries
         ++ entries_after bucket.old.kept.entries bucket.old.kept.shard caller.now.incarnation caller.now.clock asks.now }
-    ensures shard { (bucket.new.kept.shard ≡ bucket.old.kept.shard) × (bucket.new.kept.shards ≡ bucket.old.kept.shards) }
+    ensures shard { bucket.new.kept.shard ≡ bucket.old.kept.shard }
+    ensures shards { bucket.new.kept.shards ≡ bucket.old.kept.shards }
     ensures replies { replies.new ≡ map (λ entry. entry.reply)
         (entries_after bucket.old.kept.entries bucket.old.kept.shard caller.now.incarnation caller.now.clock asks.now) }
     ensures stamp { result ≡ last_stamp caller.now.clock
@@ -68,7 +69,8 @@ pub(crate) fn make_all(
     ensures kept { IsKept bucket.old.kept }
     ensures entries { OnOk result (bucket.new.kept.entries ≡ bucket.old.kept.entries
         ++ entries_after bucket.old.kept.entries bucket.old.kept.shard caller.now.incarnation caller.now.clock asks.now) }
-    ensures shard { (bucket.new.kept.shard ≡ bucket.old.kept.shard) × (bucket.new.kept.shards ≡ bucket.old.kept.shards) }
+    ensures shard { bucket.new.kept.shard ≡ bucket.old.kept.shard }
+    ensures shards { bucket.new.kept.shards ≡ bucket.old.kept.shards }
     ensures replies { OnOk result (replies.new ≡ map (λ entry. entry.reply)
         (entries_after bucket.old.kept.entries bucket.old.kept.shard caller.now.incarnation caller.now.clock asks.now)) }
     ensures stamp { IfOk result (λ last. last ≡ last_stamp caller.now.clock

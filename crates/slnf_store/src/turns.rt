@@ -39,17 +39,17 @@ pub(crate) fn one_turn<R: Wait, G: Gate>(
     ensures here { IsOf turns.now pass.new }
     ensures turn { (earlier : List Entry) × IsLegal earlier × MatchResult result
         (λ made.
-            TakesTurn shard earlier
-                (entry_after earlier shard caller.now.incarnation caller.now.clock ask.now.item ask.now.request ∷ [])
-                (view pass.old) (view pass.new)
-            × (made.0 ≡ (entry_after earlier shard caller.now.incarnation caller.now.clock ask.now.item
-                ask.now.request).reply)
-            × (made.1 ≡ max (last_stamp 0 earlier) caller.now.clock + 1)
-            × (made.1 < 2 ^ 62)
-            × CanReply ask.now.request made.0)
+        TakesTurn shard earlier
+        (entry_after earlier shard caller.now.incarnation caller.now.clock ask.now.item ask.now.request ∷ [])
+        (view pass.old) (view pass.new)
+        × (made.0 ≡ (entry_after earlier shard caller.now.incarnation caller.now.clock ask.now.item
+        ask.now.request).reply)
+        × (made.1 ≡ max (last_stamp 0 earlier) caller.now.clock + 1)
+        × (made.1 < 2 ^ 62)
+        × CanReply ask.now.request made.0)
         (λ refusal.
-            TakesTurn shard earlier [] (view pass.old) (view pass.new)
-            × IsRefusal 1 (max (last_stamp 0 earlier) caller.now.clock) refusal) }
+        TakesTurn shard earlier [] (view pass.old) (view pass.new)
+        × IsRefusal 1 (max (last_stamp 0 earlier) caller.now.clock) refusal) }
 {
     let mut held = turns.take(rt, pass, shard);
     gate.inside(shard);
@@ -83,18 +83,18 @@ pub(crate) fn one_turn_of_many<R: Wait, G: Gate>(
     ensures here { IsOf turns.now pass.new }
     ensures turn { (earlier : List Entry) × IsLegal earlier × MatchResult result
         (λ last.
-            TakesTurn shard earlier
-                (entries_after earlier shard caller.now.incarnation caller.now.clock asks.now)
-                (view pass.old) (view pass.new)
-            × (replies.new ≡ map (λ entry. entry.reply)
-                (entries_after earlier shard caller.now.incarnation caller.now.clock asks.now))
-            × (last ≡ last_stamp caller.now.clock
-                (entries_after earlier shard caller.now.incarnation caller.now.clock asks.now))
-            × (last < 2 ^ 62))
+        TakesTurn shard earlier
+        (entries_after earlier shard caller.now.incarnation caller.now.clock asks.now)
+        (view pass.old) (view pass.new)
+        × (replies.new ≡ map (λ entry. entry.reply)
+        (entries_after earlier shard caller.now.incarnation caller.now.clock asks.now))
+        × (last ≡ last_stamp caller.now.clock
+        (entries_after earlier shard caller.now.incarnation caller.now.clock asks.now))
+        × (last < 2 ^ 62))
         (λ refusal.
-            TakesTurn shard earlier [] (view pass.old) (view pass.new)
-            × (replies.new ≡ replies.old)
-            × IsRefusal (length asks.now) (max (last_stamp 0 earlier) caller.now.clock) refusal) }
+        TakesTurn shard earlier [] (view pass.old) (view pass.new)
+        × (replies.new ≡ replies.old)
+        × IsRefusal (length asks.now) (max (last_stamp 0 earlier) caller.now.clock) refusal) }
 {
     let mut held = turns.take(rt, pass, shard);
     gate.inside(shard);

@@ -34,9 +34,9 @@ impl Store {
         // Some legal history of the shard is what the accesses found there.
         ensures access { (earlier : List Entry) × IsLegal earlier × MatchResult result
             (λ _. MakesAccesses (first_shard (shards_of self.now) asks.now) earlier pass.old pass.new asks.now
-                replies.new)
+            replies.new)
             (λ refusal. RefusesAccesses (length asks.now) (first_shard (shards_of self.now) asks.now) earlier
-                pass.old pass.new refusal × (replies.new ≡ replies.old)) }
+            pass.old pass.new refusal × (replies.new ≡ replies.old)) }
     {
         let shard = self.shard_of(asks[0].request.key());
         let caller = Caller {

@@ -17,10 +17,10 @@ invariant_of-root c =
     let table = c.args.self.now.turns.table.shared.table_id in
     let here : p.pass.seat.table_id ≡ table = ap (λ (z : PassState). z.table_id) c.root.view_is ∙ c.requires.here.0 in
     let there : q.pass.seat.table_id ≡ table = ap (λ (z : PassState). z.table_id) c.other.view_is
-        ∙ c.requires.here.1 in
+    ∙ c.requires.here.1 in
     let root : v.number ≡ 0 = ap (λ (z : PassState). z.known.number) c.root.view_is ∙ c.requires.root in
     let other : w.number ≢ 0 = λ zero. c.requires.other
-        (ap (λ (z : PassState). z.known.number) (sym c.other.view_is) ∙ zero) in
+    (ap (λ (z : PassState). z.known.number) (sym c.other.view_is) ∙ zero) in
     let ip = subst (λ (z : TableId). IsPass z.slots p.clock v) here c.root.invariant.2 in
     let iq = subst (λ (z : TableId). IsPass z.slots q.clock w) there c.other.invariant.2 in
     let now = pass_joined table.slots p.clock q.clock v w (view c.join.new.root) e.root root other ip iq e.told in
