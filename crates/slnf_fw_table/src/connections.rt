@@ -1,4 +1,4 @@
-ghost use Rattle.std.specs.Prelude.{◌≡◌};
+ghost use Rattle.std.specs.Prelude.{◌≡◌, ◌≤◌, IfSome};
 ghost use Rattle.slnf_fw_table.specs.Kinds.{kind_of_flags};
 ghost use Rattle.slnf_fw_table.specs.Transitions.{moves_of, move_of};
 ghost use Rattle.slnf_fw_table.specs.declared.connections.State.TheVariants.{SynSent, SynAcked, Opened, FinByOpener, FinByOther, BothFin, Closed, Live};
@@ -22,6 +22,48 @@ pub enum State {
     BothFin,
     Closed,
     Live,
+}
+
+impl State {
+    ghost use Rattle.slnf_fw_table.specs.declared.connections.State.{State};
+    ghost use Rattle.slnf_fw_table.specs.States.{state_number, state_with};
+
+    /// The state's number: 1 to 8, in the order of the variants.
+    pub fn number(&self) -> u8
+        ensures value { result ≡ state_number self.now }
+        ensures from_one { 1 ≤ result }
+        ensures to_eight { result ≤ 8 }
+    {
+        match self {
+            State::SynSent => 1,
+            State::SynAcked => 2,
+            State::Opened => 3,
+            State::FinByOpener => 4,
+            State::FinByOther => 5,
+            State::BothFin => 6,
+            State::Closed => 7,
+            State::Live => 8,
+        }
+    }
+
+    /// The state with this number, and `None` where it is none of 1 to 8.
+    pub fn from_number(number: u8) -> Option<State>
+        ensures value { result ≡ state_with number }
+        ensures gives { IfSome result (λ state. state_number state ≡ number) }
+        ensures finds { (state : State) → state_number state ≡ number → result ≡ Some state }
+    {
+        match number {
+            1 => Some(State::SynSent),
+            2 => Some(State::SynAcked),
+            3 => Some(State::Opened),
+            4 => Some(State::FinByOpener),
+            5 => Some(State::FinByOther),
+            6 => Some(State::BothFin),
+            7 => Some(State::Closed),
+            8 => Some(State::Live),
+            _ => None,
+        }
+    }
 }
 
 /// The side of a connection that a packet comes from: the one that opened it, or the other one.
