@@ -1,0 +1,57 @@
+-- The ordinary firewall: one table of connections.
+use Rattle.std.specs.Prelude.{Bool, ◌&&◌, if◌then◌else◌, Option, None}
+use Rattle.slnf_base.specs.declared.packets.Packet.{Packet}
+use Rattle.slnf_base.specs.declared.packets.Change.TheVariants.{Keep}
+use Rattle.slnf_base.specs.declared.packets.Reason.TheVariants.{Neither}
+use Rattle.slnf_base.specs.declared.packets.Verdict.{Verdict}
+use Rattle.slnf_base.specs.declared.packets.Verdict.TheVariants.{Emit, Dropped}
+use Rattle.slnf_base.specs.Equal.{is_same_pair, is_same_proto}
+use Rattle.slnf_access.specs.Map.{Cells}
+use Rattle.slnf_keys.specs.declared.keys.ConnKey.{ConnKey}
+use Rattle.slnf_keys.specs.Keys.{conn_key_number, IsConnKey}
+use Rattle.slnf_run.specs.Boxes.{Box}
+use Rattle.slnf_run.specs.Tables.{IsTable, with_value}
+use Rattle.slnf_fw.specs.declared.flights.Tracked.{Tracked}
+use Rattle.slnf_fw.specs.declared.choices.Choice.{Choice}
+use Rattle.slnf_fw.specs.declared.choices.Choice.TheVariants.{Refuses, Passes, Writes}
+use Rattle.slnf_fw.specs.Conns.{tracked_number}
+use Rattle.slnf_fw.specs.Packets.{Policy, crosses, conn_of_packet}
+use Rattle.slnf_fw.specs.Choices.{choice_of}
+
+-- what is kept of each connection
+abbrev pub Conns : Type 0
+Conns = ConnKey → Option Tracked
+
+-- the connections are one
+abbrev pub is_same_conn : ConnKey → ConnKey → Bool
+is_same_conn a b =
+    is_same_proto a.proto b.proto && (is_same_pair a.inside b.inside && is_same_pair a.outside b.outside)
+
+-- the verdict of a choice
+abbrev pub choice_verdict : Choice → Verdict
+choice_verdict (Refuses reason) = Dropped reason
+choice_verdict Passes = Emit Keep
+choice_verdict (Writes tracked) = Emit Keep
+
+-- the connections after a choice
+abbrev pub choice_conns : Conns → ConnKey → Choice → Conns
+choice_conns conns key (Refuses reason) = conns
+choice_conns conns key Passes = conns
+choice_conns conns key (Writes tracked) = with_value is_same_conn conns key tracked
+
+-- what the box makes of a packet
+abbrev pub fw_choice : Policy → Conns → Packet → Choice
+fw_choice policy conns packet =
+    if crosses policy packet then choice_of policy packet (conns (conn_of_packet policy packet)) else Refuses Neither
+
+-- The box. It sees packets, and makes one step of each.
+abbrev pub fw_box : Policy → Box Packet Conns
+fw_box policy = record {
+  empty = λ key. None;
+  verdict = λ conns packet. choice_verdict (fw_choice policy conns packet);
+  next = λ conns packet. choice_conns conns (conn_of_packet policy packet) (fw_choice policy conns packet);
+}
+
+-- the box has the connections of the store's map
+abbrev pub IsSameConns : Conns → Cells → Type 0
+IsSameConns = IsTable conn_key_number IsConnKey tracked_number
