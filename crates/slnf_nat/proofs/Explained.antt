@@ -15,7 +15,7 @@ use Rattle.slnf_access.specs.declared.requests.Entry.{Entry}
 use Rattle.slnf_access.specs.declared.requests.Reply.{Reply}
 use Rattle.slnf_access.specs.declared.requests.Reply.TheVariants.{Done, Found, Absent}
 use Rattle.slnf_access.specs.Map.{Cells, empty, map_after}
-use Rattle.slnf_access.specs.Machines.{Stand, Flies, Ends, stand_step, stand_after, decided_at}
+use Rattle.slnf_access.specs.Machines.{Stand, Flies, Ends, stand_step, stand_after, decided_at, stand_of_step}
 use Rattle.slnf_access.proofs.Laws.{cell_of-append}
 use Rattle.slnf_keys.specs.declared.values.FlowTo.{FlowTo}
 use Rattle.slnf_base.specs.Ranges.{IsPair}
@@ -66,7 +66,7 @@ still_looks nat packet inside (x ∷ xs) h = absurd (go x.reply h)
     end : (v : Verdict) → decided_at (nat_machine nat) (stand_after (nat_machine nat) (Ends (Some v)) xs) ≡ None → ⊥
     end v h = let e : decided_at (nat_machine nat) (stand_after (nat_machine nat) (Ends (Some v)) xs) ≡ Some v = ap (decided_at (nat_machine nat)) (ended_stays nat (Some v) xs) in cc
 
-    by : (o : Option FlowTo) → decided_at (nat_machine nat) (stand_after (nat_machine nat) (entered packet inside o) xs) ≡ None → ⊥
+    by : (o : Option FlowTo) → decided_at (nat_machine nat) (stand_after (nat_machine nat) (stand_of_step (entered packet inside o)) xs) ≡ None → ⊥
     by None h = end _ h
     by (Some to) h = end _ h
 
@@ -151,7 +151,7 @@ module _ (nat : Nat) (is_nat : IsNat nat) (base_at : ℕ → ℕ) (begins : ℕ 
         goes_on =
             let r = kept.live.claims packet.proto g packet.dest fits named in
             let reply : e.reply ≡ Found r.2.held.value r.2.held.version = read_reply (map_after empty before) e _ (Some r.2.held) (next.asked ∙ ap (nat_asks nat) is_port) next.replied r.2.there in
-            ap (λ q. nat_goes nat q e.reply) is_port ∙ ap (nat_goes nat (In LookPort packet)) reply ∙ ap (claimed packet) r.2.claim
+            ap (λ q. nat_goes nat q e.reply) is_port ∙ ap (nat_goes nat (In LookPort packet)) reply ∙ ap (λ o. stand_of_step (claimed packet o)) r.2.claim
 
         -- not decided before it
         not_before : d < number → ⊥
@@ -231,7 +231,7 @@ module _ (nat : Nat) (is_nat : IsNat nat) (base_at : ℕ → ℕ) (begins : ℕ 
                 emits =
                     ap (λ st. decided_at (nat_machine nat) (stand_step (nat_machine nat) st f)) looks
                     ∙ ap (λ r. decided_at (nat_machine nat) (nat_goes nat (In (LookFlow g) packet) r)) reply
-                    ∙ ap (λ o. decided_at (nat_machine nat) (entered packet g o)) to.1
+                    ∙ ap (λ o. decided_at (nat_machine nat) (stand_of_step (entered packet g o))) to.1
                     ∙ ap (λ b. Some (cond b (Emit (Dest g)) (Dropped NoFlow))) (pair_same to.0.outside packet.dest to.2)
 
                 dropped : decided_at (nat_machine nat) (stand_step (nat_machine nat) (stand_of (nat_scene nat begins) f.incarnation f.item (take d es)) f) ≡ Some (Dropped NoFlow)

@@ -12,7 +12,7 @@ use Rattle.slnf_access.specs.declared.requests.Request.TheVariants.{Read, PutIfA
 use Rattle.slnf_access.specs.declared.requests.Reply.{Reply}
 use Rattle.slnf_access.specs.declared.requests.Reply.TheVariants.{Done, Found, Absent}
 use Rattle.slnf_access.specs.Map.{key_of, reply_to, cell_after, Cells}
-use Rattle.slnf_access.specs.Machines.{Stand, Flies, Ends}
+use Rattle.slnf_access.specs.Machines.{Stand, Flies, Ends, stand_of_step}
 use Rattle.slnf_keys.specs.declared.values.FlowTo.{FlowTo}
 use Rattle.slnf_keys.specs.declared.values.Claim.{Claim}
 use Rattle.slnf_base.specs.Ranges.{IsPair}
@@ -132,7 +132,7 @@ abbrev pub BeganSo : NatFlight → Stand NatFlight → Type 0
 BeganSo first (Flies flight) = first_of flight ≡ first
 BeganSo first (Ends end) = Unit {0}
 
-looked_began : (first : NatFlight) (o : Option FlowTo) → BeganSo first (looked o)
+looked_began : (first : NatFlight) (o : Option FlowTo) → BeganSo first (stand_of_step (looked o))
 looked_began first None = tt
 looked_began first (Some to) = tt
 
@@ -146,7 +146,7 @@ out_began nat i packet (Try number) Absent = tt
 out_began nat i packet (Confirm number version) (Done stamp) = tt
 out_began nat i packet (Confirm number version) (Found value stamp) = go (flow_to_of value.0)
   where
-    go : (o : Option FlowTo) → BeganSo (Out Look i packet) (released i packet number version o)
+    go : (o : Option FlowTo) → BeganSo (Out Look i packet) (stand_of_step (released i packet number version o))
     go None = tt
     go (Some to) = refl
 out_began nat i packet (Confirm number version) Absent = tt
@@ -159,14 +159,14 @@ in_began : (nat : Nat) (packet : Packet) (state : InState) (reply : Reply) → B
 in_began nat packet LookPort (Done stamp) = tt
 in_began nat packet LookPort (Found value stamp) = go (claim_of value.0)
   where
-    go : (o : Option Claim) → BeganSo (In LookPort packet) (claimed packet o)
+    go : (o : Option Claim) → BeganSo (In LookPort packet) (stand_of_step (claimed packet o))
     go None = tt
     go (Some claim) = refl
 in_began nat packet LookPort Absent = tt
 in_began nat packet (LookFlow inside) (Done stamp) = tt
 in_began nat packet (LookFlow inside) (Found value stamp) = go (flow_to_of value.0)
   where
-    go : (o : Option FlowTo) → BeganSo (In LookPort packet) (entered packet inside o)
+    go : (o : Option FlowTo) → BeganSo (In LookPort packet) (stand_of_step (entered packet inside o))
     go None = tt
     go (Some to) = tt
 in_began nat packet (LookFlow inside) Absent = tt

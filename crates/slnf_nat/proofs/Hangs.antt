@@ -10,7 +10,7 @@ use Rattle.slnf_access.specs.declared.requests.Entry.{Entry}
 use Rattle.slnf_access.specs.declared.requests.Request.TheVariants.{PutIfAbsent}
 use Rattle.slnf_access.specs.declared.requests.Reply.TheVariants.{Done}
 use Rattle.slnf_access.specs.Map.{key_of, reply_to, cell_after, Cells, empty, map_after}
-use Rattle.slnf_access.specs.Machines.{Stand, Flies}
+use Rattle.slnf_access.specs.Machines.{Stand, Flies, stand_of_step}
 use Rattle.slnf_access.proofs.Laws.{cell_of-append}
 use Rattle.slnf_keys.specs.declared.values.Claim.{Claim}
 use Rattle.slnf_keys.specs.declared.values.FlowTo.{FlowTo}
@@ -86,7 +86,7 @@ module _ (nat : Nat) (is_nat : IsNat nat) (base_at : ℕ → ℕ) (e : Entry) (c
       record_of : FlowTo
       record_of = record { outside = tried nat packet number }
 
-      by : (o : Option FlowTo) (found : Held) → cells (flow_key packet.proto packet.source) ≡ Some found → flow_to_of found.value.0 ≡ o → Hangs nat proto port inside held.version (released i packet number version o)
+      by : (o : Option FlowTo) (found : Held) → cells (flow_key packet.proto packet.source) ≡ Some found → flow_to_of found.value.0 ≡ o → Hangs nat proto port inside held.version (stand_of_step (released i packet number version o))
       by None found at w =
           let none : cells (flow_key packet.proto packet.source) ≡ None = live.whole packet.proto packet.source ranged.2 (ap flow_in at ∙ ap outside_of w) in
           absurd (cc)

@@ -15,7 +15,7 @@ use Rattle.slnf_access.specs.declared.requests.Entry.{Entry}
 use Rattle.slnf_access.specs.declared.requests.Reply.{Reply}
 use Rattle.slnf_access.specs.declared.requests.Reply.TheVariants.{Done, Found, Absent}
 use Rattle.slnf_access.specs.Map.{key_of, reply_to, Cells}
-use Rattle.slnf_access.specs.Machines.{Stand, Flies, Ends, decided_at}
+use Rattle.slnf_access.specs.Machines.{Stand, Flies, Ends, decided_at, stand_of_step}
 use Rattle.slnf_run.specs.Visits.{newly}
 use Rattle.slnf_keys.specs.declared.values.FlowTo.{FlowTo}
 use Rattle.slnf_keys.specs.declared.values.Claim.{Claim}
@@ -71,12 +71,12 @@ module _ (nat : Nat) (is_nat : IsNat nat) (base_at : ℕ → ℕ) (before : List
   quiet flight reply asked is same own boxes =
       subst (λ next. Outcome nat base_at before e cells next flight) (sym same) (outcome cells flight reply asked is live (quiet_carries base_at before e cells) own boxes)
 
-  looked_holds : (o : Option FlowTo) → StandHolds nat base_at (before ++ e ∷ []) cells e.incarnation e.item (looked o)
+  looked_holds : (o : Option FlowTo) → StandHolds nat base_at (before ++ e ∷ []) cells e.incarnation e.item (stand_of_step (looked o))
   looked_holds None = tt
   looked_holds (Some to) = tt
 
   -- the box knows the flow of a record that is there
-  looked_boxes : (state : OutState) (i : ℕ) (packet : Packet) (choice : Option Pair) (held : Held) → IsRanged nat base_at e.incarnation (Out state i packet) → cells (flow_key packet.proto packet.source) ≡ Some held → (o : Option FlowTo) → flow_to_of held.value.0 ≡ o → (c : List Flow) → IsBoxed c cells → Boxes nat c (Out state i packet) cells choice (decided_at (nat_machine nat) (looked o))
+  looked_boxes : (state : OutState) (i : ℕ) (packet : Packet) (choice : Option Pair) (held : Held) → IsRanged nat base_at e.incarnation (Out state i packet) → cells (flow_key packet.proto packet.source) ≡ Some held → (o : Option FlowTo) → flow_to_of held.value.0 ≡ o → (c : List Flow) → IsBoxed c cells → Boxes nat c (Out state i packet) cells choice (decided_at (nat_machine nat) (stand_of_step (looked o)))
   looked_boxes state i packet choice held ranged is None w c boxed =
       let none : flow_at cells packet.proto packet.source ≡ None = ap flow_in is ∙ ap outside_of w in
       let gone : cells (flow_key packet.proto packet.source) ≡ None = live.whole packet.proto packet.source ranged.2 none in
@@ -189,11 +189,11 @@ module _ (nat : Nat) (is_nat : IsNat nat) (base_at : ℕ → ℕ) (before : List
       reads : flow_to_of value.0 ≡ Some (record { outside = at })
       reads = flow_to-coded.reads (record { outside = at }) fits
 
-      found : (o : Option FlowTo) → StandHolds nat base_at (before ++ e ∷ []) cells e.incarnation e.item (released i packet number version o)
+      found : (o : Option FlowTo) → StandHolds nat base_at (before ++ e ∷ []) cells e.incarnation e.item (stand_of_step (released i packet number version o))
       found None = tt
       found (Some to) = λ running. owned_more packet at version owned
 
-      known : (held : Held) → cells key ≡ Some held → (o : Option FlowTo) → flow_to_of held.value.0 ≡ o → (c : List Flow) → IsBoxed c cells → Boxes nat c (Out (Confirm number version) i packet) cells None (decided_at (nat_machine nat) (released i packet number version o))
+      known : (held : Held) → cells key ≡ Some held → (o : Option FlowTo) → flow_to_of held.value.0 ≡ o → (c : List Flow) → IsBoxed c cells → Boxes nat c (Out (Confirm number version) i packet) cells None (decided_at (nat_machine nat) (stand_of_step (released i packet number version o)))
       known held is None w c boxed =
           let none : flow_at cells packet.proto packet.source ≡ None = ap flow_in is ∙ ap outside_of w in
           let gone : cells key ≡ None = live.whole packet.proto packet.source ranged.2 none in
@@ -265,19 +265,19 @@ module _ (nat : Nat) (is_nat : IsNat nat) (base_at : ℕ → ℕ) (before : List
           cc
 
   -- a packet on its way in
-  entered_holds : (packet : Packet) (inside : Pair) (o : Option FlowTo) → StandHolds nat base_at (before ++ e ∷ []) cells e.incarnation e.item (entered packet inside o)
+  entered_holds : (packet : Packet) (inside : Pair) (o : Option FlowTo) → StandHolds nat base_at (before ++ e ∷ []) cells e.incarnation e.item (stand_of_step (entered packet inside o))
   entered_holds packet inside None = tt
   entered_holds packet inside (Some to) = tt
 
-  claimed_holds : (packet : Packet) (value : Value) (o : Option Claim) → claim_of value.0 ≡ o → StandHolds nat base_at (before ++ e ∷ []) cells e.incarnation e.item (claimed packet o)
+  claimed_holds : (packet : Packet) (value : Value) (o : Option Claim) → claim_of value.0 ≡ o → StandHolds nat base_at (before ++ e ∷ []) cells e.incarnation e.item (stand_of_step (claimed packet o))
   claimed_holds packet value None w = tt
   claimed_holds packet value (Some claim) w = (claim-coded.has value.0 claim w).1.1
 
-  claimed_boxes : (packet : Packet) (choice : Option Pair) (o : Option Claim) (c : List Flow) → IsBoxed c cells → Boxes nat c (In LookPort packet) cells choice (decided_at (nat_machine nat) (claimed packet o))
+  claimed_boxes : (packet : Packet) (choice : Option Pair) (o : Option Claim) (c : List Flow) → IsBoxed c cells → Boxes nat c (In LookPort packet) cells choice (decided_at (nat_machine nat) (stand_of_step (claimed packet o)))
   claimed_boxes packet choice None c boxed = boxed
   claimed_boxes packet choice (Some claim) c boxed = boxed
 
-  entered_boxes : (packet : Packet) (inside : Pair) (held : Held) → IsRanged nat base_at e.incarnation (In (LookFlow inside) packet) → IsPair inside → cells (flow_key packet.proto inside) ≡ Some held → (o : Option FlowTo) → flow_to_of held.value.0 ≡ o → (c : List Flow) → IsBoxed c cells → Boxes nat c (In (LookFlow inside) packet) cells None (decided_at (nat_machine nat) (entered packet inside o))
+  entered_boxes : (packet : Packet) (inside : Pair) (held : Held) → IsRanged nat base_at e.incarnation (In (LookFlow inside) packet) → IsPair inside → cells (flow_key packet.proto inside) ≡ Some held → (o : Option FlowTo) → flow_to_of held.value.0 ≡ o → (c : List Flow) → IsBoxed c cells → Boxes nat c (In (LookFlow inside) packet) cells None (decided_at (nat_machine nat) (stand_of_step (entered packet inside o)))
   entered_boxes packet inside held ranged fits is None w c boxed = boxed
   entered_boxes packet inside held ranged fits is (Some to) w c boxed = go (is_same_pair to.outside packet.dest) refl
     where

@@ -18,7 +18,7 @@ use Rattle.slnf_access.specs.declared.requests.Request.TheVariants.{Read, PutIfA
 use Rattle.slnf_access.specs.declared.requests.Reply.{Reply}
 use Rattle.slnf_access.specs.declared.requests.Reply.TheVariants.{Done, Found, Absent}
 use Rattle.slnf_access.specs.Map.{key_of, reply_to, conditional_reply, Cells, empty, map_after}
-use Rattle.slnf_access.specs.Machines.{Stand, Flies, Ends, stand_after, IsPath, decided_at}
+use Rattle.slnf_access.specs.Machines.{Stand, Flies, Ends, stand_after, IsPath, decided_at, stand_of_step}
 use Rattle.slnf_access.proofs.Laws.{path-front}
 use Rattle.slnf_keys.specs.declared.values.FlowTo.{FlowTo}
 use Rattle.slnf_keys.specs.declared.values.Claim.{Claim}
@@ -81,7 +81,7 @@ has_port_step nat (Out state i packet) reply h = absurd h
 has_port_step nat (In LookPort packet) (Done stamp) h = λ q. cc
 has_port_step nat (In LookPort packet) (Found value stamp) h = go (claim_of value.0)
   where
-    go : (o : Option Claim) → HasPort (claimed packet o)
+    go : (o : Option Claim) → HasPort (stand_of_step (claimed packet o))
     go None = λ q. cc
     go (Some claim) = tt
 has_port_step nat (In LookPort packet) Absent h = λ q. cc
@@ -92,7 +92,7 @@ has_port_step nat (In (LookFlow inside) packet) (Found value stamp) h = go (flow
     by true h = cc
     by false h = cc
 
-    go : (o : Option FlowTo) → HasPort (entered packet inside o)
+    go : (o : Option FlowTo) → HasPort (stand_of_step (entered packet inside o))
     go None = λ q. cc
     go (Some to) = by (is_same_pair to.outside packet.dest)
 has_port_step nat (In (LookFlow inside) packet) Absent h = λ q. cc
