@@ -8,3 +8,6 @@ mod stores;
 pub use functions::{Function, Start, Step};
 pub use requests::{Ask, Entry, Held, Key, Reply, Request, Value};
 pub use stores::ListStore;
+
+#[cfg(test)]
+mod tests;

@@ -8,3 +8,6 @@ mod theorems;
 pub use flights::{LbFlight, LbState};
 pub use functions::{LbFunction, is_forward, is_return};
 pub use theorems::paths_are_one_balancer;
+
+#[cfg(test)]
+mod tests;
