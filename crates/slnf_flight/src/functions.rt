@@ -54,7 +54,11 @@ impl AnyFunction {
                 service: copy_of(alloc, service)?,
                 active: active_of(alloc, service, epoch.active.as_slice())?,
             })),
-            _ => Err(NoMemory),
+            FunctionPlan::Nat(_) => unreachable!(),
+            FunctionPlan::Firewall {
+                inside: _,
+                rules: _,
+            } => unreachable!(),
         }
     }
 }
