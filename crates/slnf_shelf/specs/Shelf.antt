@@ -48,9 +48,13 @@ pub record Gives (held : List ℕ) (at : ℕ) (buffer : List ℕ) (count : ℕ) 
   pub bytes : take count buffer ≡ take count (drop at held)
   pub within : count ≤ length held - at
 
+-- The file was written up to some byte.
+abbrev pub WritesFront : List ℕ → Option (List ℕ) → Option (List ℕ) → Type 0
+WritesFront text before now = (count : ℕ) × (now ≡ set_to (take count text) before)
+
 -- The file was written up to some byte, or is as before.
 abbrev pub WritesSome : List ℕ → Option (List ℕ) → Option (List ℕ) → Type 0
-WritesSome text before now = (now ≡ before) ⊎ ((count : ℕ) × (now ≡ set_to (take count text) before))
+WritesSome text before now = (now ≡ before) ⊎ WritesFront text before now
 
 -- no call ever met a fault
 abbrev pub no_faults : Faults

@@ -22,7 +22,7 @@ impl Made {
     ghost use Rattle.slnf_shelf.specs.Memory.{next_number, with_call};
 
     /// Counts one more call of this kind, and gives its number.
-    pub fn count(&mut self, call: Call) -> u64
+    pub(crate) fn count(&mut self, call: Call) -> u64
         ensures number { result ≡ next_number self.old call }
         ensures counted { self.new ≡ with_call call self.old }
     {

@@ -18,6 +18,8 @@ pub fn note_fault(alloc: Global, faults: &mut Vec<Fault>, call: Call, name: &str
     ensures counts { Moves (Only call name.now) (fault_count faults.old.items) (fault_count faults.new.items) }
     ensures cause { result ≡ ShelfError.Failed
         → Rose call name.now (fault_count faults.old.items) (fault_count faults.new.items) }
+    ensures no_memory { result ≡ ShelfError.NoMemory
+        → fault_count faults.new.items ≡ fault_count faults.old.items }
 {
     match add_fault(alloc, faults, call, name) {
         Ok(()) => ShelfError::Failed,

@@ -71,6 +71,9 @@ impl MemoryShelf {
         ensures counts { Moves (Only call name.now) (fault_count self.old.faults) (fault_count self.new.faults) }
         ensures cause { IsErrOf result ShelfError.Failed
             → Rose call name.now (fault_count self.old.faults) (fault_count self.new.faults) }
+        ensures no_fault { OnOk result (fault_count self.new.faults ≡ fault_count self.old.faults) }
+        ensures no_memory { IsErrOf result ShelfError.NoMemory
+            → fault_count self.new.faults ≡ fault_count self.old.faults }
         ensures failed { IsErrOf result ShelfError.Failed
             → IsTrue (is_listed self.old.fails call (next_number self.old.made call)) }
         ensures passed { OnOk result (is_listed self.old.fails call (next_number self.old.made call) ≡ false) }
@@ -105,6 +108,9 @@ impl Shelf for MemoryShelf {
         ensures counts { Moves (Only Call.Read name.now) (fault_count self.old.faults) (fault_count self.new.faults) }
         ensures cause { IsErrOf result ShelfError.Failed
             → Rose Call.Read name.now (fault_count self.old.faults) (fault_count self.new.faults) }
+        ensures no_fault { OnOk result (fault_count self.new.faults ≡ fault_count self.old.faults) }
+        ensures no_memory { IsErrOf result ShelfError.NoMemory
+            → fault_count self.new.faults ≡ fault_count self.old.faults }
         ensures files { SameFiles (held_in self.old.files) (held_in self.new.files) }
         ensures fits { IfOk result (λ count. count ≤ length into.old) }
         ensures bytes { IfOk result (λ count. IfSome (held_in self.old.files name.now) (λ held. Gives held at into.new count)) }
@@ -129,6 +135,9 @@ impl Shelf for MemoryShelf {
         ensures counts { Moves (Only Call.Begin name.now) (fault_count self.old.faults) (fault_count self.new.faults) }
         ensures cause { IsErrOf result ShelfError.Failed
             → Rose Call.Begin name.now (fault_count self.old.faults) (fault_count self.new.faults) }
+        ensures no_fault { OnOk result (fault_count self.new.faults ≡ fault_count self.old.faults) }
+        ensures no_memory { IsErrOf result ShelfError.NoMemory
+            → fault_count self.new.faults ≡ fault_count self.old.faults }
         ensures others { SameOthers name.now (held_in self.old.files) (held_in self.new.files) }
         ensures ok { OnOk result (held_in self.new.files name.now ≡ set_to [] (held_in self.old.files name.now)) }
         ensures err { OnErr result ((held_in self.new.files name.now ≡ held_in self.old.files name.now)
@@ -153,6 +162,9 @@ impl Shelf for MemoryShelf {
         ensures counts { Moves (Only Call.Append name.now) (fault_count self.old.faults) (fault_count self.new.faults) }
         ensures cause { IsErrOf result ShelfError.Failed
             → Rose Call.Append name.now (fault_count self.old.faults) (fault_count self.new.faults) }
+        ensures no_fault { OnOk result (fault_count self.new.faults ≡ fault_count self.old.faults) }
+        ensures no_memory { IsErrOf result ShelfError.NoMemory
+            → fault_count self.new.faults ≡ fault_count self.old.faults }
         ensures others { SameOthers name.now (held_in self.old.files) (held_in self.new.files) }
         ensures fits { IfOk result (λ count. count ≤ length piece.now) }
         ensures some { IfOk result (λ count. 0 < length piece.now → 0 < count) }

@@ -71,6 +71,8 @@ pub trait Shelf {
         requires { at ≤ 2 ^ 32 }
         ensures counts { Moves (Only Call.Read name.now) (faults self.old) (faults self.new) }
         ensures cause { IsErrOf result ShelfError.Failed → Rose Call.Read name.now (faults self.old) (faults self.new) }
+        ensures no_fault { OnOk result (faults self.new ≡ faults self.old) }
+        ensures no_memory { IsErrOf result ShelfError.NoMemory → faults self.new ≡ faults self.old }
         ensures files { SameFiles (holds self.old) (holds self.new) }
         ensures fits { IfOk result (λ count. count ≤ length into.old) }
         ensures bytes { IfOk result (λ count. IfSome (holds self.old name.now) (λ held. Gives held at into.new count)) }
@@ -82,6 +84,8 @@ pub trait Shelf {
     fn begin(&mut self, name: &str) -> Result<(), ShelfError>
         ensures counts { Moves (Only Call.Begin name.now) (faults self.old) (faults self.new) }
         ensures cause { IsErrOf result ShelfError.Failed → Rose Call.Begin name.now (faults self.old) (faults self.new) }
+        ensures no_fault { OnOk result (faults self.new ≡ faults self.old) }
+        ensures no_memory { IsErrOf result ShelfError.NoMemory → faults self.new ≡ faults self.old }
         ensures others { SameOthers name.now (holds self.old) (holds self.new) }
         ensures ok { OnOk result (holds self.new name.now ≡ set_to [] (holds self.old name.now)) }
         ensures err { OnErr result ((holds self.new name.now ≡ holds self.old name.now)
@@ -93,6 +97,8 @@ pub trait Shelf {
     fn append(&mut self, name: &str, piece: &[u8]) -> Result<usize, ShelfError>
         ensures counts { Moves (Only Call.Append name.now) (faults self.old) (faults self.new) }
         ensures cause { IsErrOf result ShelfError.Failed → Rose Call.Append name.now (faults self.old) (faults self.new) }
+        ensures no_fault { OnOk result (faults self.new ≡ faults self.old) }
+        ensures no_memory { IsErrOf result ShelfError.NoMemory → faults self.new ≡ faults self.old }
         ensures others { SameOthers name.now (holds self.old) (holds self.new) }
         ensures fits { IfOk result (λ count. count ≤ length piece.now) }
         ensures some { IfOk result (λ count. 0 < length piece.now → 0 < count) }

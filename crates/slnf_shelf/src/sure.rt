@@ -10,6 +10,9 @@ use std::marker::Model;
 
 /// Files in memory whose calls meet no fault. A file that isn't there is read as one that holds nothing.
 /// Clauses see the files.
+///
+/// The commands don't use it. It shows that a shelf may meet no fault at all: over it no count ever rises, so that a
+/// caller has no fault to expect but want of memory.
 #[derive(Debug, Drop)]
 pub struct SureShelf {
     alloc: Global,
@@ -55,6 +58,8 @@ impl Shelf for SureShelf {
     fn read(&mut self, name: &str, at: u64, into: &mut [u8]) -> Result<usize, ShelfError>
         ensures counts { Moves (Only Call.Read name.now) no_faults no_faults }
         ensures cause { IsErrOf result ShelfError.Failed → Rose Call.Read name.now no_faults no_faults }
+        ensures no_fault { OnOk result (no_faults ≡ no_faults) }
+        ensures no_memory { IsErrOf result ShelfError.NoMemory → no_faults ≡ no_faults }
         ensures files { SameFiles (held_in self.old) (held_in self.new) }
         ensures fits { IfOk result (λ count. count ≤ length into.old) }
         ensures bytes { IfOk result (λ count. IfSome (held_in self.old name.now) (λ held. Gives held at into.new count)) }
@@ -74,6 +79,8 @@ impl Shelf for SureShelf {
     fn begin(&mut self, name: &str) -> Result<(), ShelfError>
         ensures counts { Moves (Only Call.Begin name.now) no_faults no_faults }
         ensures cause { IsErrOf result ShelfError.Failed → Rose Call.Begin name.now no_faults no_faults }
+        ensures no_fault { OnOk result (no_faults ≡ no_faults) }
+        ensures no_memory { IsErrOf result ShelfError.NoMemory → no_faults ≡ no_faults }
         ensures others { SameOthers name.now (held_in self.old) (held_in self.new) }
         ensures ok { OnOk result (held_in self.new name.now ≡ set_to [] (held_in self.old name.now)) }
         ensures err { OnErr result ((held_in self.new name.now ≡ held_in self.old name.now)
@@ -93,6 +100,8 @@ impl Shelf for SureShelf {
     fn append(&mut self, name: &str, piece: &[u8]) -> Result<usize, ShelfError>
         ensures counts { Moves (Only Call.Append name.now) no_faults no_faults }
         ensures cause { IsErrOf result ShelfError.Failed → Rose Call.Append name.now no_faults no_faults }
+        ensures no_fault { OnOk result (no_faults ≡ no_faults) }
+        ensures no_memory { IsErrOf result ShelfError.NoMemory → no_faults ≡ no_faults }
         ensures others { SameOthers name.now (held_in self.old) (held_in self.new) }
         ensures fits { IfOk result (λ count. count ≤ length piece.now) }
         ensures some { IfOk result (λ count. 0 < length piece.now → 0 < count) }

@@ -1,6 +1,6 @@
 ghost use Rattle.std.specs.Prelude.{◌≡◌, ◌≤◌, ◌<◌, ◌+◌, ◌^◌, ◌⊎◌, ℕ, length, take, vec_len, IsErrOf, IfOk, IfSome, OnOk, OnErr};
 ghost use Rattle.std.specs.Io.{StartsWith};
-ghost use Rattle.slnf_shelf.specs.Shelf.{Moves, Only, Writes, Rose, SameFiles, SameOthers, WritesSome, set_to, with_more};
+ghost use Rattle.slnf_shelf.specs.Shelf.{Moves, Only, Writes, Rose, SameFiles, SameOthers, WritesFront, WritesSome, set_to, with_more};
 ghost use Rattle.slnf_shelf.specs.declared.whole.WholeError.TheVariants.{Failed as WholeFailed, NoMemory as WholeNoMemory};
 
 use crate::shelf::{Call, Shelf, ShelfError};
@@ -72,6 +72,9 @@ pub fn read_whole<S: Shelf>(
     ensures counts { Moves (Only Call.Read name.now) (S.faults shelf.old) (S.faults shelf.new) }
     ensures cause { IsErrOf result WholeError.Failed
         → Rose Call.Read name.now (S.faults shelf.old) (S.faults shelf.new) }
+    ensures no_fault { OnOk result (S.faults shelf.new ≡ S.faults shelf.old) }
+    ensures over_limit { IsErrOf result WholeError.OverLimit → S.faults shelf.new ≡ S.faults shelf.old }
+    ensures no_memory { IsErrOf result WholeError.NoMemory → S.faults shelf.new ≡ S.faults shelf.old }
     ensures files { SameFiles (S.holds shelf.old) (S.holds shelf.new) }
     ensures fits { IfOk result (λ bytes. length bytes ≤ limit) }
     ensures bytes { IfOk result (λ bytes. IfSome (S.holds shelf.old name.now) (λ held. bytes ≡ held)) }
@@ -95,6 +98,9 @@ fn read_by<S: Shelf>(
     ensures counts { Moves (Only Call.Read name.now) (S.faults shelf.old) (S.faults shelf.new) }
     ensures cause { IsErrOf result WholeError.Failed
         → Rose Call.Read name.now (S.faults shelf.old) (S.faults shelf.new) }
+    ensures no_fault { OnOk result (S.faults shelf.new ≡ S.faults shelf.old) }
+    ensures over_limit { IsErrOf result WholeError.OverLimit → S.faults shelf.new ≡ S.faults shelf.old }
+    ensures no_memory { IsErrOf result WholeError.NoMemory → S.faults shelf.new ≡ S.faults shelf.old }
     ensures files { SameFiles (S.holds shelf.old) (S.holds shelf.new) }
     ensures fits { IfOk result (λ bytes. length bytes ≤ limit) }
     ensures bytes { IfOk result (λ bytes. IfSome (S.holds shelf.old name.now) (λ held. bytes ≡ held)) }
@@ -125,6 +131,8 @@ fn read_more<S: Shelf>(
     ensures counts { Moves (Only Call.Read name.now) (S.faults shelf.old) (S.faults shelf.new) }
     ensures cause { IsErrOf result ShelfError.Failed
         → Rose Call.Read name.now (S.faults shelf.old) (S.faults shelf.new) }
+    ensures no_fault { OnOk result (S.faults shelf.new ≡ S.faults shelf.old) }
+    ensures no_memory { IsErrOf result ShelfError.NoMemory → S.faults shelf.new ≡ S.faults shelf.old }
     ensures files { SameFiles (S.holds shelf.old) (S.holds shelf.new) }
     ensures fits { IfOk result (λ count. count ≤ length buffer.old) }
     ensures len { IfOk result (λ count. vec_len bytes.new ≡ vec_len bytes.old + count) }
@@ -139,15 +147,20 @@ fn read_more<S: Shelf>(
 }
 
 /// Begins a file and appends the text until nothing of it rests: a text of no bytes is begun alone. After an
-/// error the file is as before, or holds a front of the text.
+/// error the file holds a front of the text, or is as before, and the second only where its begin met a fault or
+/// memory was wanting.
 pub fn write_whole<S: Shelf>(shelf: &mut S, name: &str, text: &[u8]) -> Result<(), ShelfError>
     ensures counts { Moves (Writes name.now) (S.faults shelf.old) (S.faults shelf.new) }
     ensures cause { IsErrOf result ShelfError.Failed
         → Rose Call.Begin name.now (S.faults shelf.old) (S.faults shelf.new)
         ⊎ Rose Call.Append name.now (S.faults shelf.old) (S.faults shelf.new) }
+    ensures no_fault { OnOk result (S.faults shelf.new ≡ S.faults shelf.old) }
+    ensures no_memory { IsErrOf result ShelfError.NoMemory → S.faults shelf.new ≡ S.faults shelf.old }
     ensures others { SameOthers name.now (S.holds shelf.old) (S.holds shelf.new) }
     ensures ok { OnOk result (S.holds shelf.new name.now ≡ set_to text.now (S.holds shelf.old name.now)) }
     ensures err { OnErr result (WritesSome text.now (S.holds shelf.old name.now) (S.holds shelf.new name.now)) }
+    ensures begun { IsErrOf result ShelfError.Failed → ¬ Rose Call.Begin name.now (S.faults shelf.old) (S.faults shelf.new)
+        → WritesFront text.now (S.holds shelf.old name.now) (S.holds shelf.new name.now) }
 {
     shelf.begin(name)?;
     append_whole(shelf, name, text)
@@ -159,6 +172,8 @@ fn append_whole<S: Shelf>(shelf: &mut S, name: &str, text: &[u8]) -> Result<(), 
     ensures counts { Moves (Only Call.Append name.now) (S.faults shelf.old) (S.faults shelf.new) }
     ensures cause { IsErrOf result ShelfError.Failed
         → Rose Call.Append name.now (S.faults shelf.old) (S.faults shelf.new) }
+    ensures no_fault { OnOk result (S.faults shelf.new ≡ S.faults shelf.old) }
+    ensures no_memory { IsErrOf result ShelfError.NoMemory → S.faults shelf.new ≡ S.faults shelf.old }
     ensures others { SameOthers name.now (S.holds shelf.old) (S.holds shelf.new) }
     ensures ok { OnOk result (S.holds shelf.new name.now ≡ with_more text.now (S.holds shelf.old name.now)) }
     ensures err { OnErr result ((count : ℕ) × (S.holds shelf.new name.now

@@ -14,6 +14,7 @@ returns-in_err-written-clause-err g c =
 pub loop-written-preserved : goal.loop-written-preserved
 loop-written-preserved g c = record {
   moves = Moves-then _ _ _ _ c.loop-written.invariant.moves c.in_ok-written.ensures.counts;
+  still = c.in_ok-written.ensures.no_fault ∙ c.loop-written.invariant.still;
   others = λ other not. c.in_ok-written.ensures.others other not ∙ c.loop-written.invariant.others other not;
   fits = omega (arith, c.in_ok-written.ensures.fits, length-drop c.loop-written.written c.args.text.now);
   gained = front-of-rest _ _ _ _ _ _ c.loop-written.invariant.gained c.in_ok-written.ensures.ok;

@@ -6,6 +6,7 @@ use Rattle.slnf_shelf.proofs.whole.append_whole.Given as goal
 abbrev pub invariant-loop-written : goal.invariant-loop-written
 invariant-loop-written g l = record {
   moves : Moves (Only Append l.name) (g.S.Shelf.faults l.fn.shelf) (g.S.Shelf.faults l.shelf);
+  still : g.S.Shelf.faults l.shelf ≡ g.S.Shelf.faults l.fn.shelf;
   others : SameOthers l.name (g.S.Shelf.holds l.fn.shelf) (g.S.Shelf.holds l.shelf);
   fits : l.written ≤ length l.text;
   gained : g.S.Shelf.holds l.shelf l.name ≡ with_more (take l.written l.text) (g.S.Shelf.holds l.fn.shelf l.name);
