@@ -19,7 +19,7 @@ use Rattle.slnf_top.specs.declared.steps.Run.{Run}
 use Rattle.slnf_top.specs.Words.{Step}
 use Rattle.slnf_top.specs.Effects.{Holds, IsOutput, Reads, Calls, WriteRose, CaptureRose}
 use Rattle.slnf_top.specs.Answer.{plan_reading, capture_reading, captures_answer, answer_under, answer, no_tally}
-use Rattle.slnf_top.specs.Refused.{Refuses, Gives, RefusesCaptures, StopsWriting}
+use Rattle.slnf_top.specs.Refused.{Refuses, Gives, RefusesCaptures, StopsWriting, StaysUnless}
 use Rattle.slnf_top.specs.Inputs.{IsPlanOf, AreHeld, AreTold, AreInputs, bytes_of}
 use Rattle.slnf_top.specs.Files.{files_of, HoldFiles, IsNamed, WritesFiles, FileRose, Wrote}
 use Rattle.slnf_top.specs.Written.{IsRunOf, IsDone, IsWritten, status_of, verdicts_in}
@@ -118,8 +118,8 @@ stopped_done ended rose h (inl e) = let none : StopsWriting rose status.Ok = sub
 stopped_done ended rose h (inr e) = let none : StopsWriting rose status.Left = subst (StopsWriting rose) e h in none
 
 -- the reading of the captures was refused
-pub refused_under : (plan : Plan) (service : Service) (out : List ℕ) (names : List (List ℕ)) (ended : Status) (before now : Faults) (held holds : Holds) → Moves (ReadsUnder names) before now → SameFiles held holds → RefusesCaptures service no_tally names before now held ended → EndedUnder plan service out names ended before now held holds
-refused_under plan service out names ended before now held holds counts same h =
+pub refused_under : (plan : Plan) (service : Service) (out : List ℕ) (names : List (List ℕ)) (ended : Status) (before now : Faults) (held holds : Holds) → Moves (ReadsUnder names) before now → SameFiles held holds → RefusesCaptures service no_tally names before now held ended → StaysUnless status.ReadFault before now ended → EndedUnder plan service out names ended before now held holds
+refused_under plan service out names ended before now held holds counts same h still =
     let at_status : (other : Status) → ended ≡ other → RefusesCaptures service no_tally names before now held other =
     λ other e. subst (RefusesCaptures service no_tally names before now held) e h in
     record {
@@ -128,6 +128,7 @@ refused_under plan service out names ended before now held holds counts same h =
       not_usage = λ e. at_status status.Usage e;
       read_fault = λ e. at_status status.ReadFault e;
       write_fault = λ e. absurd (at_status status.WriteFault e);
+      no_fault = λ not_read not_write. still not_read;
       nothing_begun = λ not. (counts, same);
       answered = λ captures held_are. refusal_answer (CaptureRose service no_tally names before now held) (λ s. (others : List (List ℕ)) → AreHeld held names others → captures_answer service no_tally others ≡ Some s) (captures_answer service no_tally captures) ended (λ s gives. gives captures held_are) h;
       written = λ captures held_are done.
@@ -135,9 +136,9 @@ refused_under plan service out names ended before now held holds counts same h =
     }
 
 -- memory was wanting behind the reading of the captures
-pub wanting_under : (plan : Plan) (service : Service) (out : List ℕ) (names : List (List ℕ)) (before now : Faults) (held holds : Holds) → Moves (ReadsUnder names) before now → SameFiles held holds → EndedUnder plan service out names status.NoMemory before now held holds
-wanting_under plan service out names before now held holds counts same =
-    refused_under plan service out names status.NoMemory before now held holds counts same tt
+pub wanting_under : (plan : Plan) (service : Service) (out : List ℕ) (names : List (List ℕ)) (before now : Faults) (held holds : Holds) → Moves (ReadsUnder names) before now → now ≡ before → SameFiles held holds → EndedUnder plan service out names status.NoMemory before now held holds
+wanting_under plan service out names before now held holds counts still same =
+    refused_under plan service out names status.NoMemory before now held holds counts same tt (λ not. still)
 
 -- there are as many captures as names
 told_length : (held : Holds) (names : List (List ℕ)) (given : List Given) → AreTold held names given → length given ≡ length names
@@ -171,6 +172,7 @@ run_outputs plan service out given lanes run count is same name h =
 -- What is so when the captures were read and the writing of a run's files began.
 pub record WritesRun (plan : Plan) (service : Service) (out : List ℕ) (names : List (List ℕ)) (inputs : Inputs) (run : Run) (a b c : Faults) (held middle holds : Holds) : Type 0 where
   pub read : Moves (ReadsUnder names) a b
+  pub still : b ≡ a
   pub same : SameFiles held middle
   pub are_inputs : AreInputs service held names inputs
   pub is_run : IsRunOf plan service out inputs.given inputs.lanes run
@@ -179,9 +181,10 @@ pub record WritesRun (plan : Plan) (service : Service) (out : List ℕ) (names :
   pub others : (other : List ℕ) → ¬ IsNamed run.files other → holds other ≡ middle other
 
 -- from the files by another name
-pub writes_run : (plan : Plan) (service : Service) (out : List ℕ) (names : List (List ℕ)) (inputs : Inputs) (run : Run) (files : List File) (a b c : Faults) (held middle holds : Holds) → files ≡ run.files → Moves (ReadsUnder names) a b → SameFiles held middle → AreInputs service held names inputs → IsRunOf plan service out inputs.given inputs.lanes run → length names ≤ 32 → Moves (WritesFiles files) b c → ((other : List ℕ) → ¬ IsNamed files other → holds other ≡ middle other) → WritesRun plan service out names inputs run a b c held middle holds
-writes_run plan service out names inputs run files a b c held middle holds is read same are_inputs is_run few write others = record {
+pub writes_run : (plan : Plan) (service : Service) (out : List ℕ) (names : List (List ℕ)) (inputs : Inputs) (run : Run) (files : List File) (a b c : Faults) (held middle holds : Holds) → files ≡ run.files → Moves (ReadsUnder names) a b → b ≡ a → SameFiles held middle → AreInputs service held names inputs → IsRunOf plan service out inputs.given inputs.lanes run → length names ≤ 32 → Moves (WritesFiles files) b c → ((other : List ℕ) → ¬ IsNamed files other → holds other ≡ middle other) → WritesRun plan service out names inputs run a b c held middle holds
+writes_run plan service out names inputs run files a b c held middle holds is read still same are_inputs is_run few write others = record {
   read = read;
+  still = still;
   same = same;
   are_inputs = are_inputs;
   is_run = is_run;
@@ -218,8 +221,8 @@ rose_whole plan service out names inputs run a b c held middle holds w h = (
 )
 
 -- the writing was stopped
-pub stopped_under : (plan : Plan) (service : Service) (out : List ℕ) (names : List (List ℕ)) (inputs : Inputs) (run : Run) (ended : Status) (a b c : Faults) (held middle holds : Holds) → WritesRun plan service out names inputs run a b c held middle holds → StopsWriting (FileRose run.files b c) ended → EndedUnder plan service out names ended a c held holds
-stopped_under plan service out names inputs run ended a b c held middle holds w h =
+pub stopped_under : (plan : Plan) (service : Service) (out : List ℕ) (names : List (List ℕ)) (inputs : Inputs) (run : Run) (ended : Status) (a b c : Faults) (held middle holds : Holds) → WritesRun plan service out names inputs run a b c held middle holds → StopsWriting (FileRose run.files b c) ended → StaysUnless status.WriteFault b c ended → EndedUnder plan service out names ended a c held holds
+stopped_under plan service out names inputs run ended a b c held middle holds w h still =
     let at_status : (other : Status) → ended ≡ other → StopsWriting (FileRose run.files b c) other = λ other e. subst (StopsWriting (FileRose run.files b c)) e h in
     record {
       counts = read_then_write plan service out names inputs run a b c held middle holds w;
@@ -227,6 +230,7 @@ stopped_under plan service out names inputs run ended a b c held middle holds w 
       not_usage = λ e. at_status status.Usage e;
       read_fault = λ e. absurd (at_status status.ReadFault e);
       write_fault = λ e. rose_whole plan service out names inputs run a b c held middle holds w (at_status status.WriteFault e);
+      no_fault = λ not_read not_write. still not_write ∙ w.still;
       nothing_begun = λ not. absurd (stops_writes ended (FileRose run.files b c) h not);
       answered = λ captures held_are. stopped_answer ended _ (FileRose run.files b c) (w.are_inputs.passed captures held_are) h;
       written = λ captures held_are done. absurd (stopped_done ended (FileRose run.files b c) h done);
@@ -250,8 +254,8 @@ files_hold plan service out names inputs run a b c held middle holds w wrote =
     hold_since run.files held middle holds w.same (subst (λ (fs : List File). HoldFiles fs middle holds) (sym w.is_run.files) hold)
 
 -- all was written
-pub all_under : (plan : Plan) (service : Service) (out : List ℕ) (names : List (List ℕ)) (inputs : Inputs) (run : Run) (a b c : Faults) (held middle holds : Holds) → WritesRun plan service out names inputs run a b c held middle holds → Wrote run.files middle holds → EndedUnder plan service out names (status_of run.left) a c held holds
-all_under plan service out names inputs run a b c held middle holds w wrote =
+pub all_under : (plan : Plan) (service : Service) (out : List ℕ) (names : List (List ℕ)) (inputs : Inputs) (run : Run) (a b c : Faults) (held middle holds : Holds) → WritesRun plan service out names inputs run a b c held middle holds → Wrote run.files middle holds → c ≡ b → EndedUnder plan service out names (status_of run.left) a c held holds
+all_under plan service out names inputs run a b c held middle holds w wrote still =
     let ends = ends_if (run.left == 0) in
     record {
       counts = read_then_write plan service out names inputs run a b c held middle holds w;
@@ -259,6 +263,7 @@ all_under plan service out names inputs run a b c held middle holds w wrote =
       not_usage = ends.0;
       read_fault = λ e. absurd (ends.1 e);
       write_fault = λ e. absurd (ends.2 e);
+      no_fault = λ not_read not_write. still ∙ w.still;
       nothing_begun = λ not. absurd (not ends.3);
       answered = λ captures held_are. ends.4 (captures_answer service no_tally captures) (w.are_inputs.passed captures held_are);
       written = λ captures held_are done. record {
@@ -274,8 +279,8 @@ all_under plan service out names inputs run a b c held middle holds w wrote =
     }
 
 -- the plan was refused
-pub refused_plan : (step : Step) (ended : Status) (before now : Faults) (held holds : Holds) → Moves (Only Read step.plan) before now → SameFiles held holds → Refuses (Rose Read step.plan before now) (Gives plan_reading (held step.plan)) ended → Ended step ended before now held holds
-refused_plan step ended before now held holds counts same h =
+pub refused_plan : (step : Step) (ended : Status) (before now : Faults) (held holds : Holds) → Moves (Only Read step.plan) before now → SameFiles held holds → Refuses (Rose Read step.plan before now) (Gives plan_reading (held step.plan)) ended → StaysUnless status.ReadFault before now ended → Ended step ended before now held holds
+refused_plan step ended before now held holds counts same h still =
     let at_status : (other : Status) → ended ≡ other → Refuses (Rose Read step.plan before now) (Gives plan_reading (held step.plan)) other =
     λ other e. subst (Refuses (Rose Read step.plan before now) (Gives plan_reading (held step.plan))) e h in
     record {
@@ -284,6 +289,7 @@ refused_plan step ended before now held holds counts same h =
       not_usage = λ e. at_status status.Usage e;
       read_fault = λ e. inl (at_status status.ReadFault e);
       write_fault = λ e. absurd (at_status status.WriteFault e);
+      no_fault = λ not_read not_write. still not_read;
       nothing_begun = λ not. (Moves-wider (Only Read step.plan) (Reads step) before now (plan_reads step) counts, same);
       answered = λ plan captures plan_at captures_at.
           refusal_answer (Rose Read step.plan before now) (Gives plan_reading (held step.plan)) (answer plan captures) ended
@@ -337,8 +343,8 @@ written_after step plan service ended plan_bytes captures held middle holds func
 }
 
 -- the command went on behind the plan
-pub ended_under : (step : Step) (plan : Plan) (service : Service) (ended : Status) (a b c : Faults) (held middle holds : Holds) → plan.function ≡ Balancer service → plan.batch ≡ 1 → Moves (Only Read step.plan) a b → SameFiles held middle → IfSome (held step.plan) (IsPlanOf plan) → EndedUnder plan service step.out step.captures ended b c middle holds → Ended step ended a c held holds
-ended_under step plan service ended a b c held middle holds function one read same is_plan under = record {
+pub ended_under : (step : Step) (plan : Plan) (service : Service) (ended : Status) (a b c : Faults) (held middle holds : Holds) → plan.function ≡ Balancer service → plan.batch ≡ 1 → Moves (Only Read step.plan) a b → b ≡ a → SameFiles held middle → IfSome (held step.plan) (IsPlanOf plan) → EndedUnder plan service step.out step.captures ended b c middle holds → Ended step ended a c held holds
+ended_under step plan service ended a b c held middle holds function one read still same is_plan under = record {
   counts = Moves-then (Calls step) a b c (Moves-wider (Only Read step.plan) (Calls step) a b (plan_calls step) read) (Moves-wider (CallsUnder step.out step.captures) (Calls step) b c (under_calls step) under.counts);
   others = λ name apart. under.others name apart ∙ same name;
   not_usage = under.not_usage;
@@ -348,6 +354,7 @@ ended_under step plan service ended a b c held middle holds function one read sa
     rose_earlier service no_tally step.captures (Only Read step.plan) a b c held middle read same (under.read_fault e),
   );
   write_fault = λ e. write_earlier step.out (length step.captures) (Only Read step.plan) a b c read (under.write_fault e);
+  no_fault = λ not_read not_write. under.no_fault not_read not_write ∙ still;
   nothing_begun = λ not.
       let rest = under.nothing_begun not in
       (Moves-then (Reads step) a b c (Moves-wider (Only Read step.plan) (Reads step) a b (plan_reads step) read) (Moves-wider (ReadsUnder step.captures) (Reads step) b c (capture_reads step) rest.0), λ name. rest.1 name ∙ same name);

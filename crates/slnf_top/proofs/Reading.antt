@@ -47,6 +47,7 @@ none_left service tally held (bytes ∷ captures) h = absurd h
 -- How far the reading has come: the captures of these names are left to read.
 pub record ReadsSoFar (service : Service) (before now : Faults) (held holds : Holds) (names rest : List (List ℕ)) (given : List Given) (lanes : List Lane) (tally : Tally) : Type 0 where
   pub moves : Moves (ReadsUnder names) before now
+  pub still : now ≡ before
   pub files : SameFiles held holds
   pub among : (name : List ℕ) → IsAmong rest name → IsAmong names name
   pub read : (gs : List Given) (ls : List Lane) → AreRead gs ls → AreRead (given ++ gs) (lanes ++ ls)
@@ -59,6 +60,7 @@ pub record ReadsSoFar (service : Service) (before now : Faults) (held holds : Ho
 pub reads_start : (service : Service) (before : Faults) (held : Holds) (names : List (List ℕ)) → ReadsSoFar service before before held held names names [] [] no_tally
 reads_start service before held names = record {
   moves = Moves-still (ReadsUnder names) before;
+  still = refl;
   files = λ name. refl;
   among = λ name n. n;
   read = λ gs ls r. r;
@@ -103,8 +105,8 @@ tally_next service tally lanes input is next =
     let packets_are : tally.packets ≡ packet_count lanes = is.packets in
     record { places = omega arith; bytes = next.bytes; packets = omega arith; few = next.packets }
 
-pub reads_next : (service : Service) (before now after : Faults) (held holds later : Holds) (names rest : List (List ℕ)) (name : List ℕ) (given : List Given) (lanes : List Lane) (tally : Tally) (input : Input) → ReadsSoFar service before now held holds names (name ∷ rest) given lanes tally → Moves (Only Read name) now after → SameFiles holds later → IfSome (holds name) (λ bytes. input.given.bytes ≡ bytes) → IsNext service tally input → ReadsSoFar service before after held later names rest (given ++ input.given ∷ []) (lanes ++ input.lane ∷ []) input.tally
-reads_next service before now after held holds later names rest name given lanes tally input far moved same here next =
+pub reads_next : (service : Service) (before now after : Faults) (held holds later : Holds) (names rest : List (List ℕ)) (name : List ℕ) (given : List Given) (lanes : List Lane) (tally : Tally) (input : Input) → ReadsSoFar service before now held holds names (name ∷ rest) given lanes tally → Moves (Only Read name) now after → after ≡ now → SameFiles holds later → IfSome (holds name) (λ bytes. input.given.bytes ≡ bytes) → IsNext service tally input → ReadsSoFar service before after held later names rest (given ++ input.given ∷ []) (lanes ++ input.lane ∷ []) input.tally
+reads_next service before now after held holds later names rest name given lanes tally input far moved same_faults same here next =
     let there : IfSome (held name) (λ bytes. input.given.bytes ≡ bytes) = subst (λ (o : Option (List ℕ)). IfSome o (λ bytes. input.given.bytes ≡ bytes)) (far.files name) here in
     let passed : IfSome (held name) (λ bytes. capture_reading service tally bytes ≡ Ok input.tally) =
     told_weaker (λ bytes. input.given.bytes ≡ bytes) (λ bytes. capture_reading service tally bytes ≡ Ok input.tally) (held name)
@@ -113,6 +115,7 @@ reads_next service before now after held holds later names rest name given lanes
     let longer : length (lanes ++ input.lane ∷ []) ≡ length lanes + 1 = length-append lanes (input.lane ∷ []) in
     record {
       moves = moves_next service before now after held holds names rest name given lanes tally far moved;
+      still = same_faults ∙ far.still;
       files = λ other. same other ∙ far.files other;
       among = λ other n. far.among other (inr n);
       read = λ gs ls r. read_more given gs lanes ls input.given input.lane (far.read (input.given ∷ gs) (input.lane ∷ ls) (next.read, r));
@@ -156,12 +159,12 @@ moves_at f xs i x name service before now after held holds names given lanes tal
     moves_next service before now after held holds names (map f (drop (i + 1) xs)) name given lanes tally
     (reads_at f xs i x name service before now held holds names given lanes tally within is same far) moved
 
-pub next_at : {X : Type 0} (f : X → List ℕ) (xs : List X) (i : ℕ) (x : X) (name : List ℕ) (service : Service) (before now after : Faults) (held holds later : Holds) (names : List (List ℕ)) (given more : List Given) (lanes others : List Lane) (tally : Tally) (input : Input) → i < length xs → x ≡ get_or xs i x → name ≡ f x → ReadsSoFar service before now held holds names (map f (drop i xs)) given lanes tally → Moves (Only Read name) now after → SameFiles holds later → IfSome (holds name) (λ bytes. input.given.bytes ≡ bytes) → IsNext service tally input → more ≡ given ++ input.given ∷ [] → others ≡ lanes ++ input.lane ∷ [] → ReadsSoFar service before after held later names (map f (drop (i + 1) xs)) more others input.tally
-next_at f xs i x name service before now after held holds later names given more lanes others tally input within is same far moved files here next pushed pushed_lane =
+pub next_at : {X : Type 0} (f : X → List ℕ) (xs : List X) (i : ℕ) (x : X) (name : List ℕ) (service : Service) (before now after : Faults) (held holds later : Holds) (names : List (List ℕ)) (given more : List Given) (lanes others : List Lane) (tally : Tally) (input : Input) → i < length xs → x ≡ get_or xs i x → name ≡ f x → ReadsSoFar service before now held holds names (map f (drop i xs)) given lanes tally → Moves (Only Read name) now after → after ≡ now → SameFiles holds later → IfSome (holds name) (λ bytes. input.given.bytes ≡ bytes) → IsNext service tally input → more ≡ given ++ input.given ∷ [] → others ≡ lanes ++ input.lane ∷ [] → ReadsSoFar service before after held later names (map f (drop (i + 1) xs)) more others input.tally
+next_at f xs i x name service before now after held holds later names given more lanes others tally input within is same far moved same_faults files here next pushed pushed_lane =
     let rest : List (List ℕ) = map f (drop (i + 1) xs) in
     let at : ReadsSoFar service before after held later names rest (given ++ input.given ∷ []) (lanes ++ input.lane ∷ []) input.tally =
     reads_next service before now after held holds later names rest name given lanes tally input
-    (reads_at f xs i x name service before now held holds names given lanes tally within is same far) moved files here next in
+    (reads_at f xs i x name service before now held holds names given lanes tally within is same far) moved same_faults files here next in
     let front : ReadsSoFar service before after held later names rest more (lanes ++ input.lane ∷ []) input.tally =
     subst (λ (gs : List Given). ReadsSoFar service before after held later names rest gs (lanes ++ input.lane ∷ []) input.tally) (sym pushed) at in
     subst (λ (ls : List Lane). ReadsSoFar service before after held later names rest more ls input.tally) (sym pushed_lane) front

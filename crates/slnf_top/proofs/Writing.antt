@@ -42,12 +42,13 @@ hold_since (file ∷ files) h m k same held = (held.0 ∙ ap (set_to file.text) 
 -- How far the writing has come: these files are left to write.
 pub record WritesSoFar (files rest : List File) (a b : Faults) (h m : Holds) : Type 0 where
   pub moves : Moves (WritesFiles files) a b
+  pub still : b ≡ a
   pub others : (other : List ℕ) → ¬ IsNamed files other → m other ≡ h other
   pub written : (k : Holds) → Wrote rest m k → Wrote files h k
   pub among : (name : List ℕ) → IsNamed rest name → IsNamed files name
 
 pub writes_start : (files : List File) (a : Faults) (h : Holds) → WritesSoFar files files a a h h
-writes_start files a h = record { moves = Moves-still (WritesFiles files) a; others = λ other apart. refl; written = λ k w. w; among = λ name n. n }
+writes_start files a h = record { moves = Moves-still (WritesFiles files) a; still = refl; others = λ other apart. refl; written = λ k w. w; among = λ name n. n }
 
 -- the writes of one are among those of all
 one_of : (files rest : List File) (file : File) → ((name : List ℕ) → IsNamed (file ∷ rest) name → IsNamed files name) → (call : Call) (name : List ℕ) → Writes file.name call name → WritesFiles files call name
@@ -63,9 +64,10 @@ pub others_next : (files rest : List File) (file : File) (a b : Faults) (h m k :
 others_next files rest file a b h m k far others other apart =
     others other (λ e. apart (far.among other (inl e))) ∙ far.others other apart
 
-pub writes_next : (files rest : List File) (file : File) (a b c : Faults) (h m k : Holds) → WritesSoFar files (file ∷ rest) a b h m → Moves (Writes file.name) b c → SameOthers file.name m k → WroteOne file m k → WritesSoFar files rest a c h k
-writes_next files rest file a b c h m k far moved others one = record {
+pub writes_next : (files rest : List File) (file : File) (a b c : Faults) (h m k : Holds) → WritesSoFar files (file ∷ rest) a b h m → Moves (Writes file.name) b c → c ≡ b → SameOthers file.name m k → WroteOne file m k → WritesSoFar files rest a c h k
+writes_next files rest file a b c h m k far moved same others one = record {
   moves = moves_next files rest file a b c h m far moved;
+  still = same ∙ far.still;
   others = others_next files rest file a b h m k far others;
   written = λ last w. far.written last (k, one, w);
   among = λ name n. far.among name (inr n);

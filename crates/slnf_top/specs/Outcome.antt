@@ -74,6 +74,7 @@ pub record EndedUnder (plan : Plan) (service : Service) (out : List ℕ) (names 
   pub not_usage : ended ≢ status.Usage
   pub read_fault : ended ≡ status.ReadFault → CaptureRose service no_tally names before now held
   pub write_fault : ended ≡ status.WriteFault → WriteRose out (length names) before now
+  pub no_fault : ended ≢ status.ReadFault → ended ≢ status.WriteFault → now ≡ before
   pub nothing_begun : ¬ MayWrite ended → Moves (ReadsUnder names) before now × SameFiles held holds
   pub answered : (captures : List (List ℕ)) → AreHeld held names captures → IsAnswer ended (captures_answer service no_tally captures)
   pub written : (captures : List (List ℕ)) → AreHeld held names captures → IsDone ended → IsWrittenUnder plan service out captures ended held holds
@@ -85,6 +86,7 @@ pub record Ended (step : Step) (ended : Status) (before now : Faults) (held hold
   pub not_usage : ended ≢ status.Usage
   pub read_fault : ended ≡ status.ReadFault → ReadRose step before now held
   pub write_fault : ended ≡ status.WriteFault → WriteRose step.out (length step.captures) before now
+  pub no_fault : ended ≢ status.ReadFault → ended ≢ status.WriteFault → now ≡ before
   pub nothing_begun : ¬ MayWrite ended → Moves (Reads step) before now × SameFiles held holds
   pub answered : (plan : List ℕ) (captures : List (List ℕ)) → held step.plan ≡ Some plan → AreHeld held step.captures captures → IsAnswer ended (answer plan captures)
   pub written : (plan : List ℕ) (captures : List (List ℕ)) → held step.plan ≡ Some plan → AreHeld held step.captures captures → IsDone ended → IsWritten step plan captures ended held holds

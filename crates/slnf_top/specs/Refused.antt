@@ -1,5 +1,5 @@
 -- Why a step of the command is refused.
-use Rattle.std.specs.Prelude.{◌≡◌, ℕ, ◌+◌, ◌<◌, Option, Some, List, length, Result, Err, IfSome}
+use Rattle.std.specs.Prelude.{◌≡◌, ◌≢◌, ℕ, ◌+◌, ◌<◌, Option, Some, List, length, Result, Err, IfSome}
 use Rattle.slnf_base.specs.declared.plans.Service.{Service}
 use Rattle.slnf_shelf.specs.Shelf.{Faults}
 use Rattle.slnf_top.specs.declared.statuses.Status.{Status}
@@ -21,6 +21,10 @@ Refuses rose gives status.WriteFault = ⊥
 Refuses rose gives status.NoMemory = Unit {0}
 Refuses rose gives (status.OverLimit limit count) = gives (status.OverLimit limit count)
 Refuses rose gives (status.NotBuilt file) = gives (status.NotBuilt file)
+
+-- no count of faults changed, unless the status is this fault
+abbrev pub StaysUnless : Status → Faults → Faults → Status → Type 0
+StaysUnless fault before now ended = ended ≢ fault → now ≡ before
 
 -- the reading of these bytes gives the status
 abbrev pub Gives : {T : Type 0} → (List ℕ → Result T Status) → Option (List ℕ) → Status → Type 0

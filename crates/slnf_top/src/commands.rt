@@ -1,4 +1,4 @@
-ghost use Rattle.std.specs.Prelude.{◌≡◌, ◌≤◌, ◌↔◌, ℕ, List, length, map, None, Some, string_bytes};
+ghost use Rattle.std.specs.Prelude.{◌≡◌, ◌≢◌, ◌≤◌, ◌↔◌, ℕ, List, length, map, None, Some, string_bytes};
 ghost use Rattle.slnf_shelf.specs.Shelf.{Moves, SameFiles};
 ghost use Rattle.slnf_plan.specs.declared.plan.FunctionPlan.TheVariants.{Balancer};
 ghost use Rattle.slnf_top.specs.Words.{Step, step_words};
@@ -39,6 +39,7 @@ pub fn top_plain<S: Shelf>(alloc: Global, words: &[String], shelf: &mut S) -> St
         → result ≡ Status.ReadFault → ReadRose step (S.faults shelf.old) (S.faults shelf.new) (S.holds shelf.old) }
     ensures write_fault { (step : Step) → step_words (map string_bytes words.now) ≡ Some step
         → result ≡ Status.WriteFault → WriteRose step.out (length step.captures) (S.faults shelf.old) (S.faults shelf.new) }
+    ensures no_fault { result ≢ Status.ReadFault → result ≢ Status.WriteFault → S.faults shelf.new ≡ S.faults shelf.old }
 
     // Before the writing nothing is begun.
     ensures nothing_begun { (step : Step) → step_words (map string_bytes words.now) ≡ Some step → ¬ MayWrite result

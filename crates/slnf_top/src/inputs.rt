@@ -1,4 +1,4 @@
-ghost use Rattle.std.specs.Prelude.{◌≡◌, ◌≤◌, ◌<◌, ◌+◌, ◌^◌, List, map, length, true, false, IfOk, IfErr, IfSome, Err, string_bytes};
+ghost use Rattle.std.specs.Prelude.{◌≡◌, ◌≤◌, ◌<◌, ◌+◌, ◌^◌, List, map, length, true, false, IfOk, OnOk, IfErr, IfSome, Err, string_bytes};
 ghost use Rattle.std.specs.List.{list_any};
 ghost use Rattle.slnf_shelf.specs.Shelf.{Moves, Only, Rose, SameFiles};
 ghost use Rattle.slnf_plan.specs.Plain.{plain, plain_function};
@@ -6,7 +6,7 @@ ghost use Rattle.slnf_flight.specs.Functions.{IsBalancer};
 ghost use Rattle.slnf_top.specs.declared.statuses.Status.TheVariants as status;
 ghost use Rattle.slnf_top.specs.Limits.{plan_limit, capture_limit, captures_limit, packets_limit};
 ghost use Rattle.slnf_top.specs.Answer.{is_back, built_function, built_plan, plan_reading, packets_reading, capture_reading, no_tally};
-ghost use Rattle.slnf_top.specs.Refused.{Refuses, Gives, IsOver, RefusesCaptures};
+ghost use Rattle.slnf_top.specs.Refused.{Refuses, Gives, IsOver, RefusesCaptures, StaysUnless};
 ghost use Rattle.slnf_top.specs.Inputs.{IsGiven, IsBuilt, IsPlanOf, IsNext, AreInputs};
 ghost use Rattle.slnf_top.specs.Outcome.{ReadsUnder};
 
@@ -72,6 +72,8 @@ fn read_within<S: Shelf>(
 ) -> Result<Row<u8>, Status>
     requires { most < 2 ^ 31 }
     ensures counts { Moves (Only Call.Read name.now) (S.faults shelf.old) (S.faults shelf.new) }
+    ensures no_fault { OnOk result (S.faults shelf.new ≡ S.faults shelf.old) }
+    ensures still { IfErr result (StaysUnless Status.ReadFault (S.faults shelf.old) (S.faults shelf.new)) }
     ensures files { SameFiles (S.holds shelf.old) (S.holds shelf.new) }
     ensures within { IfOk result (λ bytes. length bytes ≤ most) }
     ensures told { IfOk result (λ bytes. IfSome (S.holds shelf.old name.now) (λ held. bytes ≡ held)) }
@@ -92,6 +94,8 @@ fn read_within<S: Shelf>(
 /// Reads the plan's file.
 pub fn read_plan_file<S: Shelf>(alloc: Global, shelf: &mut S, name: &str) -> Result<Plan, Status>
     ensures counts { Moves (Only Call.Read name.now) (S.faults shelf.old) (S.faults shelf.new) }
+    ensures no_fault { OnOk result (S.faults shelf.new ≡ S.faults shelf.old) }
+    ensures still { IfErr result (StaysUnless Status.ReadFault (S.faults shelf.old) (S.faults shelf.new)) }
     ensures files { SameFiles (S.holds shelf.old) (S.holds shelf.new) }
     ensures plan { IfOk result (λ plan. IfSome (S.holds shelf.old name.now) (IsPlanOf plan)) }
     ensures built { IfOk result IsBuilt }
@@ -153,6 +157,8 @@ pub fn read_captures<S: Shelf>(
 ) -> Result<Inputs, Status>
     requires { length names.now ≤ 32 }
     ensures counts { Moves (ReadsUnder (map string_bytes names.now)) (S.faults shelf.old) (S.faults shelf.new) }
+    ensures no_fault { OnOk result (S.faults shelf.new ≡ S.faults shelf.old) }
+    ensures still { IfErr result (StaysUnless Status.ReadFault (S.faults shelf.old) (S.faults shelf.new)) }
     ensures files { SameFiles (S.holds shelf.old) (S.holds shelf.new) }
     ensures read { IfOk result (AreInputs service.now (S.holds shelf.old) (map string_bytes names.now)) }
     ensures refused { IfErr result (RefusesCaptures service.now no_tally (map string_bytes names.now)
@@ -190,6 +196,8 @@ fn read_input<S: Shelf>(
     requires bytes { tally.bytes ≤ captures_limit }
     requires packets { tally.packets ≤ packets_limit }
     ensures counts { Moves (Only Call.Read name.now) (S.faults shelf.old) (S.faults shelf.new) }
+    ensures no_fault { OnOk result (S.faults shelf.new ≡ S.faults shelf.old) }
+    ensures still { IfErr result (StaysUnless Status.ReadFault (S.faults shelf.old) (S.faults shelf.new)) }
     ensures files { SameFiles (S.holds shelf.old) (S.holds shelf.new) }
     ensures told { IfOk result (λ input. IfSome (S.holds shelf.old name.now) (λ bytes. input.given.bytes ≡ bytes)) }
     ensures next { IfOk result (IsNext service.now tally) }

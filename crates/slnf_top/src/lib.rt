@@ -2,7 +2,7 @@
 #![tactic(auto)]
 
 #[cfg(test)]
-mod breadth_tests;
+mod cases;
 mod commands;
 mod inputs;
 #[cfg(test)]

@@ -1,9 +1,9 @@
-//! Each limit passed by one, over files that are computed as they are read.
+//! Each limit passed by one, and memory that is wanting, over files that are computed as they are read.
 ghost use Rattle.std.specs.Prelude.{◌≡◌, ◌≤◌, length, None};
 ghost use Rattle.slnf_shelf.specs.Shelf.{no_faults};
 
 use super::*;
-use slnf_shelf::{MemoryShelf, Shelf, ShelfError};
+use slnf_shelf::{Shelf, ShelfError};
 use std::alloc::Global;
 use std::test::Fail as Failed;
 
@@ -13,11 +13,12 @@ const PLAN: &[u8] =
 const HEADER: [u8; 24] =
     *b"\xd4\xc3\xb2\xa1\x02\x00\x04\x00\x00\x00\x00\x00\x00\x00\x00\x00\x00\x00\x04\x00\x65\x00\x00\x00";
 
-/// What a file holds: the plan, a capture of so many bytes whose records are empty, or a capture of 67,108,864 bytes
+/// What a file holds: the plan, 1,048,577 bytes that are no capture, a capture of so many bytes whose records are empty, or a capture of 67,108,864 bytes
 /// with 256 records: 255 of 262,144 bytes, and one of 258,024.
 #[derive(Clone, Copy)]
 enum Content {
     Plan,
+    Blank,
     Empty(u64),
     Full,
 }
@@ -30,6 +31,8 @@ struct Computed;
 fn content_of(name: &str) -> Content {
     if name == "plan" {
         Content::Plan
+    } else if name == "blank" {
+        Content::Blank
     } else if name == "header" {
         Content::Empty(24)
     } else if name == "one" {
@@ -46,6 +49,7 @@ fn content_of(name: &str) -> Content {
 fn size_of(content: Content) -> u64 {
     match content {
         Content::Plan => PLAN.len() as u64,
+        Content::Blank => 1_048_577,
         Content::Empty(size) => size,
         Content::Full => 67_108_864,
     }
@@ -90,6 +94,7 @@ fn fill(content: Content, at: u64, into: &mut [u8]) -> usize
     into.fill(0);
     match content {
         Content::Plan => put_front(into, at, PLAN),
+        Content::Blank => (),
         Content::Empty(_) => put_front(into, at, &HEADER),
         Content::Full => {
             put_front(into, at, &HEADER);
@@ -109,6 +114,9 @@ impl Shelf for Computed {
     ghost faults = { λ _. no_faults };
 
     fn read(&mut self, name: &str, at: u64, into: &mut [u8]) -> Result<usize, ShelfError> {
+        if name == "wanting" {
+            return Err(ShelfError::NoMemory);
+        }
         Ok(fill(content_of(name), at, into))
     }
 
@@ -121,78 +129,67 @@ impl Shelf for Computed {
     }
 }
 
-/// Runs `step plan out` with these captures.
-fn run(alloc: Global, captures: &[&str]) -> Result<Status, Failed> {
-    let mut words = Vec::new(alloc);
-    for word in ["step", "plan", "out"] {
-        words.push(String::from_str(alloc, word)?)?;
-    }
-    for name in captures {
-        words.push(String::from_str(alloc, name)?)?;
-    }
-    Ok(top_plain(alloc, words.as_slice(), &mut Computed))
+/// The words of a run, and the status and the fault line that it ends with.
+#[derive(Clone, Copy)]
+struct Case {
+    words: &'static [&'static str],
+    code: u8,
+    line: &'static str,
 }
 
-/// Limit 1: a plan of one byte more.
-#[test]
-fn plan_limit(rt: HostRuntime) -> Result<(), Failed> {
-    let alloc = rt.alloc();
-    let mut shelf = MemoryShelf::make(alloc, Vec::new(alloc));
-    let plan = vec![in alloc; b' '; 1_048_577]?;
-    shelf.put("plan", plan.as_slice())?;
+static CASES: [Case; 4] = [
+    Case {
+        words: &["step", "blank", "out", "header"],
+        code: 10,
+        line: "slnf: over limit 1\n",
+    },
+    Case {
+        words: &["step", "plan", "out", "header", "long"],
+        code: 10,
+        line: "slnf: over limit 2\n",
+    },
+    Case {
+        words: &["step", "plan", "out", "many", "one"],
+        code: 10,
+        line: "slnf: over limit 4\n",
+    },
+    Case {
+        words: &["step", "plan", "out", "wanting"],
+        code: 7,
+        line: "slnf: no memory\n",
+    },
+];
+
+/// Whether a run ends as it must.
+fn ends_so(alloc: Global, case: &Case) -> Result<bool, Failed> {
     let mut words = Vec::new(alloc);
-    for word in ["step", "plan", "out", "in"] {
+    for word in case.words {
         words.push(String::from_str(alloc, word)?)?;
     }
-    let over = matches!(
-        top_plain(alloc, words.as_slice(), &mut shelf),
-        Status::OverLimit {
-            limit: 1,
-            count: 1_048_577
-        }
-    );
-    assert!(rt; over);
-    Ok(())
+    let status = top_plain(alloc, words.as_slice(), &mut Computed);
+    let line = format!(in alloc; "{status}")?;
+    Ok(line.as_str() == case.line && status.code() == case.code)
 }
 
-/// Limit 2: a capture of one byte more.
+/// Limits 1, 2 and 4, and memory that is wanting.
 #[test]
-fn capture_limit(rt: HostRuntime) -> Result<(), Failed> {
-    let over = matches!(
-        run(rt.alloc(), &["header", "long"])?,
-        Status::OverLimit {
-            limit: 2,
-            count: 67_108_865
-        }
-    );
-    assert!(rt; over);
+fn limits(rt: HostRuntime) -> Result<(), Failed> {
+    for (place, case) in CASES.iter().enumerate() {
+        assert!(rt; ends_so(rt.alloc(), case)?, "case {place}");
+    }
     Ok(())
 }
 
 /// Limit 3: four captures of limit 2, and a header more.
 #[test]
 fn captures_limit(rt: HostRuntime) -> Result<(), Failed> {
-    let over = matches!(
-        run(rt.alloc(), &["header", "full", "full", "full", "full"])?,
-        Status::OverLimit {
-            limit: 3,
-            count: 268_435_480
-        }
-    );
-    assert!(rt; over);
-    Ok(())
-}
-
-/// Limit 4: a capture with as many packets as a run may have, and one packet more.
-#[test]
-fn packets_limit(rt: HostRuntime) -> Result<(), Failed> {
-    let over = matches!(
-        run(rt.alloc(), &["many", "one"])?,
-        Status::OverLimit {
-            limit: 4,
-            count: 1_048_577
-        }
-    );
-    assert!(rt; over);
+    let case = Case {
+        words: &[
+            "step", "plan", "out", "header", "full", "full", "full", "full",
+        ],
+        code: 10,
+        line: "slnf: over limit 3\n",
+    };
+    assert!(rt; ends_so(rt.alloc(), &case)?);
     Ok(())
 }

@@ -5,7 +5,7 @@ ghost use Rattle.slnf_flight.specs.Output.{output_of};
 ghost use Rattle.slnf_top.specs.Names.{capture_name};
 ghost use Rattle.slnf_top.specs.Inputs.{IsGiven, AreGiven, AreSized};
 ghost use Rattle.slnf_top.specs.Files.{capture_files, files_of, IsNamed, WritesFiles, FileRose, Wrote, WroteOne};
-ghost use Rattle.slnf_top.specs.Refused.{StopsWriting};
+ghost use Rattle.slnf_top.specs.Refused.{StopsWriting, StaysUnless};
 
 use crate::inputs::Given;
 use crate::names;
@@ -101,6 +101,8 @@ fn capture_file(
 /// Writes these files one after another. After an error the files before the one that was being written stand whole.
 pub fn write_files<S: Shelf>(shelf: &mut S, files: &[File]) -> Result<(), Status>
     ensures counts { Moves (WritesFiles files.now) (S.faults shelf.old) (S.faults shelf.new) }
+    ensures no_fault { OnOk result (S.faults shelf.new ≡ S.faults shelf.old) }
+    ensures still { IfErr result (StaysUnless Status.WriteFault (S.faults shelf.old) (S.faults shelf.new)) }
     ensures others { (other : List ℕ) → ¬ IsNamed files.now other → S.holds shelf.new other ≡ S.holds shelf.old other }
     ensures written { OnOk result (Wrote files.now (S.holds shelf.old) (S.holds shelf.new)) }
     ensures stopped { IfErr result (StopsWriting (FileRose files.now (S.faults shelf.old) (S.faults shelf.new))) }
@@ -114,6 +116,8 @@ pub fn write_files<S: Shelf>(shelf: &mut S, files: &[File]) -> Result<(), Status
 /// Writes one file whole.
 fn write_file<S: Shelf>(shelf: &mut S, file: &File) -> Result<(), Status>
     ensures counts { Moves (Writes file.now.name) (S.faults shelf.old) (S.faults shelf.new) }
+    ensures no_fault { OnOk result (S.faults shelf.new ≡ S.faults shelf.old) }
+    ensures still { IfErr result (StaysUnless Status.WriteFault (S.faults shelf.old) (S.faults shelf.new)) }
     ensures others { SameOthers file.now.name (S.holds shelf.old) (S.holds shelf.new) }
     ensures written { OnOk result (WroteOne file.now (S.holds shelf.old) (S.holds shelf.new)) }
     ensures stopped { IfErr result (StopsWriting (Rose Call.Begin file.now.name (S.faults shelf.old) (S.faults shelf.new)

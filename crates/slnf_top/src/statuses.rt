@@ -94,27 +94,28 @@ fn error_number(error: &PcapError) -> u8 {
     }
 }
 
-/// The program's fault line, without the program's name.
+/// The line that the program writes to standard error: its name, the text and a line feed. It has none for `Ok` and
+/// `Left`.
 impl fmt::Display for Status {
     fn fmt<W: fmt::Write>(&self, f: &mut fmt::Formatter<W>) -> fmt::Result {
         match self {
-            Status::Ok => write!(f, "ok"),
-            Status::Left => write!(f, "left"),
-            Status::Usage => write!(f, "usage: step PLAN OUT IN"),
+            Status::Ok => Ok(()),
+            Status::Left => Ok(()),
+            Status::Usage => writeln!(f, "slnf: usage: step PLAN OUT IN"),
             Status::PlanBad(error) => {
                 let number = error.number().unwrap_or(0);
                 let path = error.path().unwrap_or("");
-                write!(f, "plan error {number} at {path}")
+                writeln!(f, "slnf: plan error {number} at {path}")
             }
             Status::CaptureBad { lane, error } => {
                 let number = error_number(error);
-                write!(f, "capture of lane {lane}: error {number}")
+                writeln!(f, "slnf: capture of lane {lane}: error {number}")
             }
-            Status::ReadFault => write!(f, "read fault"),
-            Status::WriteFault => write!(f, "write fault"),
-            Status::NoMemory => write!(f, "no memory"),
-            Status::OverLimit { limit, count: _ } => write!(f, "over limit {limit}"),
-            Status::NotBuilt { file: _ } => write!(f, "not built yet"),
+            Status::ReadFault => writeln!(f, "slnf: read fault"),
+            Status::WriteFault => writeln!(f, "slnf: write fault"),
+            Status::NoMemory => writeln!(f, "slnf: no memory"),
+            Status::OverLimit { limit, count: _ } => writeln!(f, "slnf: over limit {limit}"),
+            Status::NotBuilt { file: _ } => writeln!(f, "slnf: not built yet"),
         }
     }
 }

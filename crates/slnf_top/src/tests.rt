@@ -1,242 +1,88 @@
-//! The command over files in memory.
+//! The command over files in memory, by the lines of a text.
 use super::*;
-use slnf_pcap::PcapError;
+use crate::cases::{CASES, MANY};
 use slnf_shelf::{Call, Fail, MemoryShelf, Shelf};
 use std::alloc::Global;
 use std::test::Fail as Failed;
 
-/// The balancer's plan without its epochs.
-const HEAD: &str =
-    "function = \"balancer\"\nshards = 1\n[balancer]\nproto = \"udp\"\nservice = \"198.51.100.10:53\"\nbackends = [\"10.1.0.1:53\", \"10.1.0.2:53\"]\n";
-
-const HEADER: [u8; 24] =
-    *b"\xd4\xc3\xb2\xa1\x02\x00\x04\x00\x00\x00\x00\x00\x00\x00\x00\x00\x00\x00\x04\x00\x65\x00\x00\x00";
-
-/// The record of a datagram from 192.0.2.1:4000 to the service.
-const PACKET: [u8; 44] =
-    *b"\x01\x00\x00\x00\x00\x00\x00\x00\x1c\x00\x00\x00\x1c\x00\x00\x00\x45\x00\x00\x1c\x00\x01\x00\x00\x40\x11\x8e\x91\xc0\x00\x02\x01\xc6\x33\x64\x0a\x0f\xa0\x00\x35\x00\x08\x03\xca";
-
-/// The same sent on to 10.1.0.1:53.
-const EMITTED: [u8; 44] =
-    *b"\x01\x00\x00\x00\x00\x00\x00\x00\x1c\x00\x00\x00\x1c\x00\x00\x00\x45\x00\x00\x1c\x00\x01\x00\x00\x40\x11\xae\xcd\xc0\x00\x02\x01\x0a\x01\x00\x01\x0f\xa0\x00\x35\x00\x08\x24\x06";
-
-/// The record of a datagram that comes back from 10.1.0.1:53.
-const BACK: [u8; 44] =
-    *b"\x01\x00\x00\x00\x00\x00\x00\x00\x1c\x00\x00\x00\x1c\x00\x00\x00\x45\x00\x00\x1c\x00\x01\x00\x00\x40\x11\x00\x00\x0a\x01\x00\x01\xc0\x00\x02\x01\x00\x35\x0f\xa0\x00\x08\x00\x00";
-
-/// A record that says 262,145 captured bytes.
-const OVER_SNAP: [u8; 16] = *b"\x01\x00\x00\x00\x00\x00\x00\x00\x01\x00\x04\x00\x01\x00\x04\x00";
-
-/// What K, B0 and B1 stand for in the journals below.
-const KEY: &str = "04110000000000000000c00002010fa0";
-
-const FIRST_BACKEND: &str = "000000000000000000000a0100010035";
-
-const SECOND_BACKEND: &str = "000000000000000000000a0100020035";
-
-/// A run of a plan with these epochs over lanes of so many packets, how many of each are emitted, and the texts.
-struct Case {
-    epochs: &'static str,
-    lanes: &'static [usize],
-    code: u8,
-    emitted: &'static [usize],
-    verdicts: &'static str,
-    journal: &'static str,
-    summary: &'static str,
+/// The bytes that a letter stands for in a capture. The records of clients are of 192.0.2.1, port 4000 or 4001.
+fn letter(letter: char) -> &'static [u8] {
+    match letter {
+        // The headers: microseconds and raw IP, and the other byte order with nanoseconds and Ethernet.
+        'h' => b"\xd4\xc3\xb2\xa1\x02\x00\x04\x00\x00\x00\x00\x00\x00\x00\x00\x00\x00\x00\x04\x00\x65\x00\x00\x00",
+        'H' => b"\xa1\xb2\x3c\x4d\x00\x02\x00\x04\x00\x00\x00\x00\x00\x00\x00\x00\x00\x04\x00\x00\x00\x00\x00\x01",
+        // A datagram of port 4000 to the service, and the same sent on to the first and to the second backend.
+        'P' => b"\x01\x00\x00\x00\x00\x00\x00\x00\x1c\x00\x00\x00\x1c\x00\x00\x00\x45\x00\x00\x1c\x00\x01\x00\x00\x40\x11\x8e\x91\xc0\x00\x02\x01\xc6\x33\x64\x0a\x0f\xa0\x00\x35\x00\x08\x03\xca",
+        'a' => b"\x01\x00\x00\x00\x00\x00\x00\x00\x1c\x00\x00\x00\x1c\x00\x00\x00\x45\x00\x00\x1c\x00\x01\x00\x00\x40\x11\xae\xcd\xc0\x00\x02\x01\x0a\x01\x00\x01\x0f\xa0\x00\x35\x00\x08\x24\x06",
+        'b' => b"\x01\x00\x00\x00\x00\x00\x00\x00\x1c\x00\x00\x00\x1c\x00\x00\x00\x45\x00\x00\x1c\x00\x01\x00\x00\x40\x11\xae\xcc\xc0\x00\x02\x01\x0a\x01\x00\x02\x0f\xa0\x00\x35\x00\x08\x24\x05",
+        // The same of port 4001.
+        'Q' => b"\x01\x00\x00\x00\x00\x00\x00\x00\x1c\x00\x00\x00\x1c\x00\x00\x00\x45\x00\x00\x1c\x00\x01\x00\x00\x40\x11\x8e\x91\xc0\x00\x02\x01\xc6\x33\x64\x0a\x0f\xa1\x00\x35\x00\x08\x03\xc9",
+        'c' => b"\x01\x00\x00\x00\x00\x00\x00\x00\x1c\x00\x00\x00\x1c\x00\x00\x00\x45\x00\x00\x1c\x00\x01\x00\x00\x40\x11\xae\xcd\xc0\x00\x02\x01\x0a\x01\x00\x01\x0f\xa1\x00\x35\x00\x08\x24\x05",
+        'd' => b"\x01\x00\x00\x00\x00\x00\x00\x00\x1c\x00\x00\x00\x1c\x00\x00\x00\x45\x00\x00\x1c\x00\x01\x00\x00\x40\x11\xae\xcc\xc0\x00\x02\x01\x0a\x01\x00\x02\x0f\xa1\x00\x35\x00\x08\x24\x04",
+        // A segment of port 4000 to the service, and the same sent on to the first backend.
+        'T' => b"\x01\x00\x00\x00\x00\x00\x00\x00\x28\x00\x00\x00\x28\x00\x00\x00\x45\x00\x00\x28\x00\x01\x00\x00\x40\x06\x8e\x90\xc0\x00\x02\x01\xc6\x33\x64\x0a\x0f\xa0\x00\x35\x00\x00\x00\x01\x00\x00\x00\x00\x50\x02\xff\xff\xb3\xcd\x00\x00",
+        't' => b"\x01\x00\x00\x00\x00\x00\x00\x00\x28\x00\x00\x00\x28\x00\x00\x00\x45\x00\x00\x28\x00\x01\x00\x00\x40\x06\xae\xcc\xc0\x00\x02\x01\x0a\x01\x00\x01\x0f\xa0\x00\x35\x00\x00\x00\x01\x00\x00\x00\x00\x50\x02\xff\xff\xd4\x09\x00\x00",
+        // A datagram that comes back from the first backend, and a record that says 262,145 captured bytes.
+        'R' => b"\x01\x00\x00\x00\x00\x00\x00\x00\x1c\x00\x00\x00\x1c\x00\x00\x00\x45\x00\x00\x1c\x00\x01\x00\x00\x40\x11\x00\x00\x0a\x01\x00\x01\xc0\x00\x02\x01\x00\x35\x0f\xa0\x00\x08\x00\x00",
+        'O' => b"\x01\x00\x00\x00\x00\x00\x00\x00\x01\x00\x04\x00\x01\x00\x04\x00",
+        // Over Ethernet: an ARP frame, a fragment, the datagram with 18 bytes of padding, and this sent on.
+        'U' => b"\x00\x00\x00\x01\x00\x00\x00\x00\x00\x00\x00\x2a\x00\x00\x00\x2a\x02\x00\x00\x00\x00\x01\x02\x00\x00\x00\x00\x02\x08\x06\x00\x00\x00\x00\x00\x00\x00\x00\x00\x00\x00\x00\x00\x00\x00\x00\x00\x00\x00\x00\x00\x00\x00\x00\x00\x00\x00\x00",
+        'F' => b"\x00\x00\x00\x01\x00\x00\x00\x00\x00\x00\x00\x2a\x00\x00\x00\x2a\x02\x00\x00\x00\x00\x01\x02\x00\x00\x00\x00\x02\x08\x00\x45\x00\x00\x1c\x00\x01\x20\x00\x40\x11\x6e\x91\xc0\x00\x02\x01\xc6\x33\x64\x0a\x0f\xa0\x00\x35\x00\x08\x03\xca",
+        'D' => b"\x00\x00\x00\x02\x00\x00\x00\x00\x00\x00\x00\x3c\x00\x00\x00\x3c\x02\x00\x00\x00\x00\x01\x02\x00\x00\x00\x00\x02\x08\x00\x45\x00\x00\x1c\x00\x01\x00\x00\x40\x11\x8e\x91\xc0\x00\x02\x01\xc6\x33\x64\x0a\x0f\xa0\x00\x35\x00\x08\x03\xca\x00\x00\x00\x00\x00\x00\x00\x00\x00\x00\x00\x00\x00\x00\x00\x00\x00\x00",
+        's' => b"\x00\x00\x00\x02\x00\x00\x00\x00\x00\x00\x00\x3c\x00\x00\x00\x3c\x02\x00\x00\x00\x00\x01\x02\x00\x00\x00\x00\x02\x08\x00\x45\x00\x00\x1c\x00\x01\x00\x00\x40\x11\xae\xcd\xc0\x00\x02\x01\x0a\x01\x00\x01\x0f\xa0\x00\x35\x00\x08\x24\x06\x00\x00\x00\x00\x00\x00\x00\x00\x00\x00\x00\x00\x00\x00\x00\x00\x00\x00",
+        _ => &[0; 5],
+    }
 }
 
-static CASES: [Case; 10] = [
-    // The usual case, and a capture without packets.
-    Case {
-        epochs: "[[epoch]]\ninstances = [{ lane = 0 }]\n",
-        lanes: &[2],
-        code: 0,
-        emitted: &[2],
-        verdicts: "0 0 emit dest 10.1.0.1:53\n0 1 emit dest 10.1.0.1:53\n",
-        journal: "1 0 0 0 read K absent\n2 0 0 0 put K B0 done 2\n3 0 0 1 read K found B0 2\n",
-        summary: "packets 2 emitted 2 dropped 0 lost 0 left 0 entries 3\n",
-    },
-    Case {
-        epochs: "[[epoch]]\ninstances = [{ lane = 0 }]\n",
-        lanes: &[0],
-        code: 0,
-        emitted: &[0],
-        verdicts: "",
-        journal: "",
-        summary: "packets 0 emitted 0 dropped 0 lost 0 left 0 entries 0\n",
-    },
-    // Two instances, one flow.
-    Case {
-        epochs: "[[epoch]]\ninstances = [{ lane = 0 }, { lane = 1 }]\nschedule = [0, 1, 0, 1]\n",
-        lanes: &[1, 1],
-        code: 0,
-        emitted: &[1, 1],
-        verdicts: "0 0 emit dest 10.1.0.1:53\n1 0 emit dest 10.1.0.1:53\n",
-        journal: "1 0 0 0 read K absent\n2 0 1 0 read K absent\n3 0 0 0 put K B0 done 3\n4 0 1 0 put K B1 found B0 3\n",
-        summary: "packets 2 emitted 2 dropped 0 lost 0 left 0 entries 4\n",
-    },
-    // One drains, the other takes over, and a packet is left.
-    Case {
-        epochs: "[[epoch]]\ninstances = [{ lane = 0, quota = 3 }]\n[[epoch]]\ninstances = [{ lane = 0, quota = 1 }]\n",
-        lanes: &[5],
-        code: 1,
-        emitted: &[4],
-        verdicts: "0 0 emit dest 10.1.0.1:53\n0 1 emit dest 10.1.0.1:53\n0 2 emit dest 10.1.0.1:53\n0 3 emit dest 10.1.0.1:53\n0 4 left\n",
-        journal: "1 0 0 0 read K absent\n2 0 0 0 put K B0 done 2\n3 0 0 1 read K found B0 2\n4 0 0 2 read K found B0 2\n5 0 1 3 read K found B0 2\n",
-        summary: "packets 5 emitted 4 dropped 0 lost 0 left 1 entries 5\n",
-    },
-    // A stop before the record, and one behind it.
-    Case {
-        epochs: "[[epoch]]\ninstances = [{ lane = 0, stop = 1 }]\n",
-        lanes: &[1],
-        code: 0,
-        emitted: &[0],
-        verdicts: "0 0 lost\n",
-        journal: "1 0 0 0 read K absent\n",
-        summary: "packets 1 emitted 0 dropped 0 lost 1 left 0 entries 1\n",
-    },
-    Case {
-        epochs: "[[epoch]]\ninstances = [{ lane = 0, stop = 2 }]\n[[epoch]]\ninstances = [{ lane = 0 }]\n",
-        lanes: &[2],
-        code: 0,
-        emitted: &[1],
-        verdicts: "0 0 lost\n0 1 emit dest 10.1.0.1:53\n",
-        journal: "1 0 0 0 read K absent\n2 0 0 0 put K B0 done 2\n3 0 1 1 read K found B0 2\n",
-        summary: "packets 2 emitted 1 dropped 0 lost 1 left 0 entries 3\n",
-    },
-    // A stop of 0 and a quota of 0 take nothing.
-    Case {
-        epochs: "[[epoch]]\ninstances = [{ lane = 0, stop = 0 }]\n",
-        lanes: &[1],
-        code: 1,
-        emitted: &[0],
-        verdicts: "0 0 left\n",
-        journal: "",
-        summary: "packets 1 emitted 0 dropped 0 lost 0 left 1 entries 0\n",
-    },
-    Case {
-        epochs: "[[epoch]]\ninstances = [{ lane = 0, quota = 0 }]\n",
-        lanes: &[1],
-        code: 1,
-        emitted: &[0],
-        verdicts: "0 0 left\n",
-        journal: "",
-        summary: "packets 1 emitted 0 dropped 0 lost 0 left 1 entries 0\n",
-    },
-    // An epoch without instances, and a schedule that names an actor that has ended.
-    Case {
-        epochs: "[[epoch]]\ninstances = []\n[[epoch]]\ninstances = [{ lane = 0 }]\nschedule = [0, 0, 0, 0]\n",
-        lanes: &[1],
-        code: 0,
-        emitted: &[1],
-        verdicts: "0 0 emit dest 10.1.0.1:53\n",
-        journal: "1 0 0 0 read K absent\n2 0 0 0 put K B0 done 2\n",
-        summary: "packets 1 emitted 1 dropped 0 lost 0 left 0 entries 2\n",
-    },
-    // A lane without a capture has no packets.
-    Case {
-        epochs: "[[epoch]]\ninstances = [{ lane = 0 }, { lane = 5 }]\n",
-        lanes: &[1],
-        code: 0,
-        emitted: &[1],
-        verdicts: "0 0 emit dest 10.1.0.1:53\n",
-        journal: "1 0 0 0 read K absent\n2 0 0 0 put K B0 done 2\n",
-        summary: "packets 1 emitted 1 dropped 0 lost 0 left 0 entries 2\n",
-    },
-];
-
-/// A plan, the fault line that it ends with, and its status.
-struct Refusal {
-    plan: &'static str,
-    code: u8,
-    line: &'static str,
+/// What a sign stands for in a text, or nothing where it stands for itself.
+fn sign(sign: char) -> &'static str {
+    match sign {
+        ';' => "\n",
+        'K' => "04110000000000000000c00002010fa0",
+        'L' => "04110000000000000000c00002010fa1",
+        'J' => "04060000000000000000c00002010fa0",
+        'A' => "000000000000000000000a0100010035",
+        'B' => "000000000000000000000a0100020035",
+        '@' => {
+            "{ lane = 0 }, { lane = 1 }, { lane = 2 }, { lane = 3 }, { lane = 4 }, { lane = 5 }, { lane = 6 }, { lane = 7 }, { lane = 8 }, { lane = 9 }, { lane = 10 }, { lane = 11 }, { lane = 12 }, { lane = 13 }, { lane = 14 }, { lane = 15 }, { lane = 16 }, { lane = 17 }, { lane = 18 }, { lane = 19 }, { lane = 20 }, { lane = 21 }, { lane = 22 }, { lane = 23 }, { lane = 24 }, { lane = 25 }, { lane = 26 }, { lane = 27 }, { lane = 28 }, { lane = 29 }, { lane = 30 }, { lane = 31 }"
+        }
+        _ => "",
+    }
 }
 
-static REFUSALS: [Refusal; 13] = [
-    Refusal {
-        plan: "a =",
-        code: 3,
-        line: "plan error 1 at ",
-    },
-    Refusal {
-        plan: "shards = 1",
-        code: 3,
-        line: "plan error 2 at function",
-    },
-    Refusal {
-        plan: "colour = 1",
-        code: 3,
-        line: "plan error 3 at colour",
-    },
-    Refusal {
-        plan: "function = 1",
-        code: 3,
-        line: "plan error 4 at function",
-    },
-    Refusal {
-        plan: "function = \"balancer\"\n[balancer]\nproto = \"udp\"\nservice = \"198.51.100.10\"\nbackends = [\"10.1.0.1:53\"]\n[[epoch]]\ninstances = [{ lane = 0 }]\n",
-        code: 3,
-        line: "plan error 5 at balancer.service",
-    },
-    Refusal {
-        plan: "function = \"nat\"\n[nat]\ninside = \"10.0.0.1/8\"\noutside = \"203.0.113.1\"\nports = [40000, 40003]\n[[epoch]]\ninstances = [{ lane = 0 }]\n",
-        code: 3,
-        line: "plan error 6 at nat.inside",
-    },
-    Refusal {
-        plan: "function = \"balancer\"\nshards = 65\n[balancer]\nproto = \"udp\"\nservice = \"198.51.100.10:53\"\nbackends = [\"10.1.0.1:53\"]\n[[epoch]]\ninstances = [{ lane = 0 }]\n",
-        code: 3,
-        line: "plan error 7 at shards",
-    },
-    Refusal {
-        plan: "function = \"balancer\"\n[balancer]\nproto = \"udp\"\nservice = \"198.51.100.10:53\"\nbackends = [\"10.1.0.1:53\"]\n[[epoch]]\ninstances = [{ lane = 0 }, { lane = 0 }]\n",
-        code: 3,
-        line: "plan error 8 at epoch.0.instances.1.lane",
-    },
-    Refusal {
-        plan: "function = \"balancer\"\n[balancer]\nproto = \"udp\"\nservice = \"198.51.100.10:53\"\nbackends = []\n[[epoch]]\ninstances = [{ lane = 0 }]\n",
-        code: 3,
-        line: "plan error 9 at balancer.backends",
-    },
-    Refusal {
-        plan: "function = \"balancer\"\n[balancer]\nproto = \"udp\"\nservice = \"198.51.100.10:53\"\nbackends = [\"10.1.0.1:53\"]\n",
-        code: 3,
-        line: "plan error 10 at epoch",
-    },
-    Refusal {
-        plan: "function = \"balancer\"\n[balancer]\nproto = \"udp\"\nservice = \"198.51.100.10:53\"\nbackends = [\"10.1.0.1:53\"]\n[[epoch]]\ninstances = [{ lane = 0 }]\nschedule = [1]\n",
-        code: 3,
-        line: "plan error 11 at epoch.0.schedule.0",
-    },
-    Refusal {
-        plan: "function = \"nat\"\n[nat]\ninside = \"10.0.0.0/8\"\noutside = \"203.0.113.1\"\nports = [40000, 40003]\n[[epoch]]\ninstances = [{ lane = 0 }]\n",
-        code: 11,
-        line: "not built yet",
-    },
-    Refusal {
-        plan: "function = \"balancer\"\nbatch = 2\n[balancer]\nproto = \"udp\"\nservice = \"198.51.100.10:53\"\nbackends = [\"10.1.0.1:53\"]\n[[epoch]]\ninstances = [{ lane = 0 }]\n",
-        code: 11,
-        line: "not built yet",
-    },
-];
-
-/// A shelf without files.
-fn empty_shelf(alloc: Global) -> MemoryShelf {
-    MemoryShelf::make(alloc, Vec::new(alloc))
+/// The files, and the captures among them.
+#[derive(Drop)]
+struct Scene {
+    alloc: Global,
+    shelf: MemoryShelf,
+    captures: usize,
+    status: Status,
 }
 
-/// The plan with these epochs.
-fn plan_of(alloc: Global, epochs: &str) -> Result<String, Failed> {
-    let mut plan = String::from_str(alloc, HEAD)?;
-    plan.push_str(epochs)?;
-    Ok(plan)
+/// The first word and the rest.
+fn parted(text: &str) -> (&str, &str) {
+    text.split_once(' ').unwrap_or((text, ""))
 }
 
-/// A capture of so many records like this one.
-fn capture_of(alloc: Global, count: usize, record: &[u8]) -> Result<Vec<u8>, Failed> {
-    let mut bytes = Vec::from_slice(alloc, &HEADER)?;
+/// The text that is spelled so, so many times.
+fn spelled(alloc: Global, text: &str, count: usize) -> Result<String, Failed> {
+    let mut spelled = String::new(alloc);
+    for c in text.chars() {
+        match sign(c) {
+            "" => spelled.push(c)?,
+            piece => spelled.push_str(piece)?,
+        }
+    }
+    Ok(spelled.as_str().repeat(alloc, count)?)
+}
+
+/// The bytes that the letters stand for, so many times.
+fn bytes_of(alloc: Global, letters: &str, count: usize) -> Result<Vec<u8>, Failed> {
+    let mut bytes = Vec::new(alloc);
     for _ in 0..count {
-        bytes.extend_from_slice(record)?;
+        for c in letters.chars() {
+            bytes.extend_from_slice(letter(c))?;
+        }
     }
     Ok(bytes)
 }
@@ -246,273 +92,149 @@ fn input_name(alloc: Global, lane: usize) -> Result<String, Failed> {
     Ok(format!(in alloc; "in.{lane}.pcap")?)
 }
 
-/// Runs `step plan.toml OUT` with so many inputs, in order.
-fn run(alloc: Global, shelf: &mut MemoryShelf, out: &str, lanes: usize) -> Result<Status, Failed> {
-    let mut words = Vec::new(alloc);
-    for word in ["step", "plan.toml", out] {
-        words.push(String::from_str(alloc, word)?)?;
-    }
-    for lane in 0..lanes {
-        words.push(input_name(alloc, lane)?)?;
-    }
-    Ok(top_plain(alloc, words.as_slice(), shelf))
-}
-
-/// Runs the command with these words.
-fn run_words(alloc: Global, shelf: &mut MemoryShelf, texts: &[&str]) -> Result<Status, Failed> {
-    let mut words = Vec::new(alloc);
-    for text in texts {
-        words.push(String::from_str(alloc, text)?)?;
-    }
-    Ok(top_plain(alloc, words.as_slice(), shelf))
-}
-
-/// Whether the file holds these bytes, at most 1,023 of them.
-fn holds(shelf: &mut MemoryShelf, name: &str, bytes: &[u8]) -> Result<bool, Failed> {
-    let mut buffer = [0; 1024];
-    let count = shelf.read(name, 0, &mut buffer)?;
-    Ok(&buffer[..count] == bytes)
-}
-
-/// A text behind its first line, with the names of a journal spelled out.
-fn spelled(alloc: Global, first: &str, rows: &str) -> Result<String, Failed> {
-    let key = rows.replace(alloc, "K", KEY)?;
-    let one = key.as_str().replace(alloc, "B0", FIRST_BACKEND)?;
-    let both = one.as_str().replace(alloc, "B1", SECOND_BACKEND)?;
-    let mut text = String::from_str(alloc, first)?;
-    text.push_str(both.as_str())?;
-    Ok(text)
-}
-
-/// Whether the outputs hold so many emitted packets each.
-fn holds_outputs(
-    alloc: Global,
-    shelf: &mut MemoryShelf,
-    emitted: &[usize],
-) -> Result<bool, Failed> {
-    let mut all = true;
-    for (lane, count) in emitted.iter().enumerate() {
-        let output = capture_of(alloc, *count, &EMITTED)?;
-        let name = format!(in alloc; "out.{lane}.pcap")?;
-        all = all && holds(shelf, name.as_str(), output.as_slice())?;
-    }
-    Ok(all)
-}
-
-/// Runs a case, and says whether it ends as it must.
-fn ends_so(alloc: Global, case: &Case) -> Result<bool, Failed> {
-    let mut shelf = empty_shelf(alloc);
-    shelf.put("plan.toml", plan_of(alloc, case.epochs)?.as_bytes())?;
-    for (lane, count) in case.lanes.iter().enumerate() {
-        let capture = capture_of(alloc, *count, &PACKET)?;
-        shelf.put(input_name(alloc, lane)?.as_str(), capture.as_slice())?;
-    }
-    let code = run(alloc, &mut shelf, "out", case.lanes.len())?.code();
-    let verdicts = spelled(alloc, "slnf verdicts 1\n", case.verdicts)?;
-    let journal = spelled(alloc, "slnf journal 1\n", case.journal)?;
-    Ok(
-        code == case.code
-            && holds_outputs(alloc, &mut shelf, case.emitted)?
-            && holds(&mut shelf, "out.verdicts", verdicts.as_bytes())?
-            && holds(&mut shelf, "out.journal", journal.as_bytes())?
-            && holds(&mut shelf, "-", case.summary.as_bytes())?,
-    )
-}
-
-/// Whole runs, byte for byte.
-#[test]
-fn runs(rt: HostRuntime) -> Result<(), Failed> {
-    for (place, case) in CASES.iter().enumerate() {
-        assert!(rt; ends_so(rt.alloc(), case)?, "case {place}");
-    }
-    Ok(())
-}
-
-/// Plans that are refused, with their fault lines.
-#[test]
-fn refused_plans(rt: HostRuntime) -> Result<(), Failed> {
-    let alloc = rt.alloc();
-    for refusal in &REFUSALS {
-        let mut shelf = empty_shelf(alloc);
-        shelf.put("plan.toml", refusal.plan.as_bytes())?;
-        let status = run(alloc, &mut shelf, "out", 1)?;
-        let line = format!(in alloc; "{status}")?;
-        assert_eq!(rt; line.as_str(), refusal.line);
-        assert_eq!(rt; status.code(), refusal.code);
-    }
-    Ok(())
-}
-
-/// Words of no form, and files that aren't there.
-#[test]
-fn usage_and_missing_files(rt: HostRuntime) -> Result<(), Failed> {
-    let alloc = rt.alloc();
-    let mut shelf = empty_shelf(alloc);
-    assert_eq!(rt; top_plain(alloc, &[], &mut shelf).code(), 2);
-    assert_eq!(rt;
-        run_words(alloc, &mut shelf, &["run", "plan.toml"])?.code(),
-        2
-    );
-    assert_eq!(rt;
-        run_words(alloc, &mut shelf, &["step", "-p", "out", "in"])?.code(),
-        2
-    );
-    assert_eq!(rt; run(alloc, &mut shelf, "out", 0)?.code(), 2);
-    assert_eq!(rt; run(alloc, &mut shelf, "out", 33)?.code(), 2);
-    assert_eq!(rt; run(alloc, &mut shelf, "out", 1)?.code(), 5);
-    let plan = plan_of(alloc, "[[epoch]]\ninstances = [{ lane = 0 }]\n")?;
-    shelf.put("plan.toml", plan.as_bytes())?;
-    shelf.put("in.0.pcap", &HEADER)?;
-    assert_eq!(rt; run(alloc, &mut shelf, "out", 2)?.code(), 5);
-    Ok(())
-}
-
-/// A shelf with a plan of one instance and two captures, the second of which is this one.
-fn two_captures(alloc: Global, capture: &[u8]) -> Result<MemoryShelf, Failed> {
-    let mut shelf = empty_shelf(alloc);
-    let plan = plan_of(alloc, "[[epoch]]\ninstances = [{ lane = 0 }]\n")?;
-    shelf.put("plan.toml", plan.as_bytes())?;
-    shelf.put("in.0.pcap", &HEADER)?;
-    shelf.put("in.1.pcap", capture)?;
-    Ok(shelf)
-}
-
-/// A capture is refused by its first rule that is broken, and one with a packet that comes back isn't built yet.
-#[test]
-fn refused_captures(rt: HostRuntime) -> Result<(), Failed> {
-    let alloc = rt.alloc();
-    let capture = capture_of(alloc, 1, &OVER_SNAP)?;
-    let mut shelf = two_captures(alloc, capture.as_slice())?;
-    let status = run(alloc, &mut shelf, "out", 2)?;
-    let over = matches!(
-        &status,
-        Status::CaptureBad {
-            lane: 1,
-            error: PcapError::OverSnap(24)
-        }
-    );
-    assert!(rt; over);
-    let line = format!(in alloc; "{status}")?;
-    assert_eq!(rt; line.as_str(), "capture of lane 1: error 6");
-    let capture = capture_of(alloc, 1, &BACK)?;
-    let mut shelf = two_captures(alloc, capture.as_slice())?;
-    let back = matches!(
-        run(alloc, &mut shelf, "out", 2)?,
-        Status::NotBuilt { file: 2 }
-    );
-    assert!(rt; back);
-    Ok(())
-}
-
-/// A fault of the second append leaves the first output whole, the verdicts begun, and the journal not there.
-#[test]
-fn failing_append(rt: HostRuntime) -> Result<(), Failed> {
-    let alloc = rt.alloc();
-    let fail = Fail {
-        call: Call::Append,
-        count: 2,
+/// A shelf whose call of this kind and number fails, if one is told.
+fn shelf_of(alloc: Global, fails: &str) -> Result<MemoryShelf, Failed> {
+    let (kind, count) = parted(fails);
+    let call = match kind {
+        "read" => Call::Read,
+        "begin" => Call::Begin,
+        "append" => Call::Append,
+        _ => return Ok(MemoryShelf::make(alloc, Vec::new(alloc))),
     };
-    let mut shelf = MemoryShelf::make(alloc, [fail].to_vec(alloc)?);
-    let plan = plan_of(alloc, "[[epoch]]\ninstances = [{ lane = 0 }]\n")?;
-    shelf.put("plan.toml", plan.as_bytes())?;
-    let capture = capture_of(alloc, 2, &PACKET)?;
-    shelf.put("in.0.pcap", capture.as_slice())?;
-    assert_eq!(rt; run(alloc, &mut shelf, "out", 1)?.code(), 6);
-    let output = capture_of(alloc, 2, &EMITTED)?;
-    assert!(rt; holds(&mut shelf, "out.0.pcap", output.as_slice())?);
-    assert!(rt; holds(&mut shelf, "out.verdicts", b"")?);
-    assert!(rt; shelf.read("out.journal", 0, &mut [0; 1]).is_err());
-    Ok(())
+    let count: u8 = count.parse()?;
+    let fail = Fail {
+        call,
+        count: u64::from(count),
+    };
+    Ok(MemoryShelf::make(alloc, [fail].to_vec(alloc)?))
 }
 
-/// An output may have an input's name: all inputs are read before it is begun.
-#[test]
-fn output_over_input(rt: HostRuntime) -> Result<(), Failed> {
-    let alloc = rt.alloc();
-    let mut shelf = empty_shelf(alloc);
-    let plan = plan_of(alloc, "[[epoch]]\ninstances = [{ lane = 0 }]\n")?;
-    shelf.put("plan.toml", plan.as_bytes())?;
-    let capture = capture_of(alloc, 1, &PACKET)?;
-    shelf.put("in.0.pcap", capture.as_slice())?;
-    assert_eq!(rt; run(alloc, &mut shelf, "in", 1)?.code(), 0);
-    let output = capture_of(alloc, 1, &EMITTED)?;
-    assert!(rt; holds(&mut shelf, "in.0.pcap", output.as_slice())?);
-    Ok(())
+impl Scene {
+    /// Puts a balancer's plan there.
+    fn put_balancer(&mut self, text: &str) -> Result<(), Failed> {
+        let (shards, rest) = parted(text);
+        let (proto, rest) = parted(rest);
+        let (count, epoch) = parted(rest);
+        let epochs = spelled(self.alloc, epoch, count.parse()?)?;
+        let plan = format!(in self.alloc; "function = \"balancer\"\nshards = {shards}\n[balancer]\nproto = \"{proto}\"\nservice = \"198.51.100.10:53\"\nbackends = [\"10.1.0.1:53\", \"10.1.0.2:53\"]\n{epochs}")?;
+        Ok(self.shelf.put("plan.toml", plan.as_bytes())?)
+    }
+
+    /// Puts captures there.
+    fn put_captures(&mut self, text: &str) -> Result<(), Failed> {
+        let (lanes, rest) = parted(text);
+        let (count, rest) = parted(rest);
+        let (header, records) = parted(rest);
+        let mut capture = bytes_of(self.alloc, header, 1)?;
+        let records = bytes_of(self.alloc, records, count.parse()?)?;
+        capture.extend_from_slice(records.as_slice())?;
+        let lanes: u8 = lanes.parse()?;
+        for _ in 0..lanes {
+            let name = input_name(self.alloc, self.captures)?;
+            self.shelf.put(name.as_str(), capture.as_slice())?;
+            self.captures = self.captures.saturating_add(1);
+        }
+        Ok(())
+    }
+
+    /// Runs the command on these words, and says whether it ends with this status.
+    fn run(&mut self, code: &str, words: &[String]) -> Result<bool, Failed> {
+        let code: u8 = code.parse()?;
+        self.status = top_plain(self.alloc, words, &mut self.shelf);
+        Ok(self.status.code() == code)
+    }
+
+    /// Runs it on the plan and the captures, and says whether it ends with this status and this fault line.
+    fn ends(&mut self, code: &str, line: &str) -> Result<bool, Failed> {
+        let mut words = words_of(self.alloc, "step plan.toml out")?;
+        for lane in 0..self.captures {
+            words.push(input_name(self.alloc, lane)?)?;
+        }
+        let ended = self.run(code, words.as_slice())?;
+        let told = format!(in self.alloc; "{}", self.status)?;
+        Ok(ended && told == line.replace(self.alloc, ";", "\n")?)
+    }
+
+    /// Whether the file holds these bytes, at most 1,023 of them.
+    fn holds(&mut self, name: &str, bytes: &[u8]) -> Result<bool, Failed> {
+        let mut buffer = [0; 1024];
+        let count = self.shelf.read(name, 0, &mut buffer)?;
+        Ok(&buffer[..count] == bytes)
+    }
+
+    /// Does what a line says, and says whether what it tells is so.
+    fn follow(&mut self, line: &str) -> Result<bool, Failed> {
+        let (verb, rest) = parted(line);
+        let (first, last) = parted(rest);
+        match verb {
+            "start" => {
+                self.shelf = shelf_of(self.alloc, rest)?;
+                self.captures = 0;
+            }
+            "toml" => {
+                let plan = spelled(self.alloc, rest, 1)?;
+                self.shelf.put("plan.toml", plan.as_bytes())?;
+            }
+            "balancer" => self.put_balancer(rest)?,
+            "in" => self.put_captures(rest)?,
+            "ends" => return self.ends(first, last),
+            "words" => {
+                let words = words_of(self.alloc, last)?;
+                return self.run(first, words.as_slice());
+            }
+            "was" => return Ok(format!(in self.alloc; "{:?}", self.status)?.as_str() == rest),
+            "holds" => {
+                let bytes = bytes_of(self.alloc, last, 1)?;
+                return self.holds(first, bytes.as_slice());
+            }
+            "says" => {
+                let text = spelled(self.alloc, last, 1)?;
+                return self.holds(first, text.as_bytes());
+            }
+            "none" => return Ok(self.shelf.read(rest, 0, &mut [0; 1]).is_err()),
+            _ => return Ok(verb.is_empty() || verb == "#"),
+        }
+        Ok(true)
+    }
 }
 
-/// One capture may stand for 32 lanes.
-#[test]
-fn many_lanes(rt: HostRuntime) -> Result<(), Failed> {
-    let alloc = rt.alloc();
-    let mut shelf = empty_shelf(alloc);
-    let plan = plan_of(alloc, "[[epoch]]\ninstances = [{ lane = 31 }]\n")?;
-    shelf.put("plan.toml", plan.as_bytes())?;
-    let capture = capture_of(alloc, 1, &PACKET)?;
-    shelf.put("in", capture.as_slice())?;
+/// The words of a text.
+fn words_of(alloc: Global, text: &str) -> Result<Vec<String>, Failed> {
     let mut words = Vec::new(alloc);
-    for word in ["step", "plan.toml", "out"] {
-        words.push(String::from_str(alloc, word)?)?;
+    for word in text.split(' ') {
+        if !word.is_empty() {
+            words.push(String::from_str(alloc, word)?)?;
+        }
     }
-    for _ in 0..32 {
-        words.push(String::from_str(alloc, "in")?)?;
+    Ok(words)
+}
+
+/// Does what each line says, and says which one told what isn't so.
+fn first_wrong<'a>(alloc: Global, lines: &'a str) -> Result<Option<&'a str>, Failed> {
+    let mut scene = Scene {
+        alloc,
+        shelf: MemoryShelf::make(alloc, Vec::new(alloc)),
+        captures: 0,
+        status: Status::Ok,
+    };
+    for line in lines.lines() {
+        if !scene.follow(line)? {
+            return Ok(Some(line));
+        }
     }
-    assert_eq!(rt; top_plain(alloc, words.as_slice(), &mut shelf).code(), 1);
-    let output = capture_of(alloc, 1, &EMITTED)?;
-    assert!(rt; holds(&mut shelf, "out.31.pcap", output.as_slice())?);
-    assert!(rt; holds(&mut shelf, "out.30.pcap", &HEADER)?);
-    assert!(rt;
-        holds(
-            &mut shelf,
-            "-",
-            b"packets 32 emitted 1 dropped 0 lost 0 left 31 entries 2\n"
-        )?
-    );
+    Ok(None)
+}
+
+/// Whole runs byte for byte, faults and refusals, each with its status and its fault line.
+#[test]
+fn cases(rt: HostRuntime) -> Result<(), Failed> {
+    assert_eq!(rt; first_wrong(rt.alloc(), CASES)?, None);
     Ok(())
 }
 
-/// A plan of 1000 epochs, each of which takes one packet.
+/// Runs of many packets, epochs and instances.
 #[test]
-fn many_epochs(rt: HostRuntime) -> Result<(), Failed> {
-    let alloc = rt.alloc();
-    let mut shelf = empty_shelf(alloc);
-    let epoch = "[[epoch]]\ninstances = [{ lane = 0, quota = 1 }]\n";
-    let epochs = epoch.repeat(alloc, 1000)?;
-    shelf.put("plan.toml", plan_of(alloc, epochs.as_str())?.as_bytes())?;
-    let capture = capture_of(alloc, 1000, &PACKET)?;
-    shelf.put("in.0.pcap", capture.as_slice())?;
-    assert_eq!(rt; run(alloc, &mut shelf, "out", 1)?.code(), 0);
-    assert!(rt;
-        holds(
-            &mut shelf,
-            "-",
-            b"packets 1000 emitted 1000 dropped 0 lost 0 left 0 entries 1001\n"
-        )?
-    );
-    Ok(())
-}
-
-/// 32 instances with 10,016 packets in all: each reads for each packet, and puts once more for its first.
-#[test]
-fn many_instances(rt: HostRuntime) -> Result<(), Failed> {
-    let alloc = rt.alloc();
-    let mut shelf = empty_shelf(alloc);
-    let mut epoch = String::from_str(alloc, "[[epoch]]\ninstances = [{ lane = 0 }")?;
-    for lane in 1..32 {
-        epoch.push_str(format!(in alloc; ", {{ lane = {lane} }}")?.as_str())?;
-    }
-    epoch.push_str("]\n")?;
-    shelf.put("plan.toml", plan_of(alloc, epoch.as_str())?.as_bytes())?;
-    let capture = capture_of(alloc, 313, &PACKET)?;
-    for lane in 0..32 {
-        shelf.put(input_name(alloc, lane)?.as_str(), capture.as_slice())?;
-    }
-    assert_eq!(rt; run(alloc, &mut shelf, "out", 32)?.code(), 0);
-    assert!(rt;
-        holds(
-            &mut shelf,
-            "-",
-            b"packets 10016 emitted 10016 dropped 0 lost 0 left 0 entries 10048\n"
-        )?
-    );
+fn many(rt: HostRuntime) -> Result<(), Failed> {
+    assert_eq!(rt; first_wrong(rt.alloc(), MANY)?, None);
     Ok(())
 }

@@ -27,10 +27,10 @@ returns-in-Ok-write_files g c =
     let few : length c.args.step.captures.now ≤ 32 = c.requires.few in
     let writes : WritesRun c.args.plan.now c.args.service.now out names inputs run (g.S.Shelf.faults c.args.shelf.now) (g.S.Shelf.faults c.read_captures.new.shelf) (g.S.Shelf.faults c.write_files.new.shelf) (g.S.Shelf.holds c.args.shelf.now) (g.S.Shelf.holds c.read_captures.new.shelf) (g.S.Shelf.holds c.write_files.new.shelf) =
     writes_run c.args.plan.now c.args.service.now out names inputs run c.as_slice.result.now (g.S.Shelf.faults c.args.shelf.now) (g.S.Shelf.faults c.read_captures.new.shelf) (g.S.Shelf.faults c.write_files.new.shelf) (g.S.Shelf.holds c.args.shelf.now) (g.S.Shelf.holds c.read_captures.new.shelf) (g.S.Shelf.holds c.write_files.new.shelf)
-    c.as_slice.ensures c.read_captures.ensures.counts c.read_captures.ensures.files c.in-Ok.ensures.read c.in-Ok-run_inputs.ensures (omega arith) c.write_files.ensures.counts c.write_files.ensures.others in
+    c.as_slice.ensures c.read_captures.ensures.counts c.in-Ok.ensures.no_fault c.read_captures.ensures.files c.in-Ok.ensures.read c.in-Ok-run_inputs.ensures (omega arith) c.write_files.ensures.counts c.write_files.ensures.others in
     subst (λ (s : Status). EndedUnder c.args.plan.now c.args.service.now out names s (g.S.Shelf.faults c.args.shelf.now) (g.S.Shelf.faults c.write_files.new.shelf) (g.S.Shelf.holds c.args.shelf.now) (g.S.Shelf.holds c.write_files.new.shelf)) (sym c.ending.ensures)
     (all_under c.args.plan.now c.args.service.now out names inputs run (g.S.Shelf.faults c.args.shelf.now) (g.S.Shelf.faults c.read_captures.new.shelf) (g.S.Shelf.faults c.write_files.new.shelf) (g.S.Shelf.holds c.args.shelf.now) (g.S.Shelf.holds c.read_captures.new.shelf) (g.S.Shelf.holds c.write_files.new.shelf) writes
-    (subst (λ (fs : List File). Wrote fs (g.S.Shelf.holds c.read_captures.new.shelf) (g.S.Shelf.holds c.write_files.new.shelf)) c.as_slice.ensures c.in-Ok-write_files.ensures.written))
+    (subst (λ (fs : List File). Wrote fs (g.S.Shelf.holds c.read_captures.new.shelf) (g.S.Shelf.holds c.write_files.new.shelf)) c.as_slice.ensures c.in-Ok-write_files.ensures.written) c.in-Ok-write_files.ensures.no_fault)
 
 pub returns : goal.returns
 returns g c =
@@ -42,6 +42,6 @@ returns g c =
     let few : length c.args.step.captures.now ≤ 32 = c.requires.few in
     let writes : WritesRun c.args.plan.now c.args.service.now out names inputs run (g.S.Shelf.faults c.args.shelf.now) (g.S.Shelf.faults c.read_captures.new.shelf) (g.S.Shelf.faults c.write_files.new.shelf) (g.S.Shelf.holds c.args.shelf.now) (g.S.Shelf.holds c.read_captures.new.shelf) (g.S.Shelf.holds c.write_files.new.shelf) =
     writes_run c.args.plan.now c.args.service.now out names inputs run c.as_slice.result.now (g.S.Shelf.faults c.args.shelf.now) (g.S.Shelf.faults c.read_captures.new.shelf) (g.S.Shelf.faults c.write_files.new.shelf) (g.S.Shelf.holds c.args.shelf.now) (g.S.Shelf.holds c.read_captures.new.shelf) (g.S.Shelf.holds c.write_files.new.shelf)
-    c.as_slice.ensures c.read_captures.ensures.counts c.read_captures.ensures.files c.in-Ok.ensures.read c.in-Ok-run_inputs.ensures (omega arith) c.write_files.ensures.counts c.write_files.ensures.others in
+    c.as_slice.ensures c.read_captures.ensures.counts c.in-Ok.ensures.no_fault c.read_captures.ensures.files c.in-Ok.ensures.read c.in-Ok-run_inputs.ensures (omega arith) c.write_files.ensures.counts c.write_files.ensures.others in
     stopped_under c.args.plan.now c.args.service.now out names inputs run c.in-Err-write_files.status (g.S.Shelf.faults c.args.shelf.now) (g.S.Shelf.faults c.read_captures.new.shelf) (g.S.Shelf.faults c.write_files.new.shelf) (g.S.Shelf.holds c.args.shelf.now) (g.S.Shelf.holds c.read_captures.new.shelf) (g.S.Shelf.holds c.write_files.new.shelf) writes
-    (subst (λ (fs : List File). StopsWriting (FileRose fs (g.S.Shelf.faults c.read_captures.new.shelf) (g.S.Shelf.faults c.write_files.new.shelf)) c.in-Err-write_files.status) c.as_slice.ensures c.in-Err-write_files.ensures.stopped)
+    (subst (λ (fs : List File). StopsWriting (FileRose fs (g.S.Shelf.faults c.read_captures.new.shelf) (g.S.Shelf.faults c.write_files.new.shelf)) c.in-Err-write_files.status) c.as_slice.ensures c.in-Err-write_files.ensures.stopped) c.in-Err-write_files.ensures.still

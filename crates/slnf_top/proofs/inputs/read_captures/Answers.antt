@@ -34,7 +34,7 @@ loop-name-preserved g c =
     next_at string_bytes c.args.names.now c.loop-name.name-index c.name-item.result c.as_str.result.now c.args.service.now
     (g.S.Shelf.faults c.args.shelf.now) (g.S.Shelf.faults c.loop-name.shelf) (g.S.Shelf.faults c.read_input.new.shelf) (g.S.Shelf.holds c.args.shelf.now) (g.S.Shelf.holds c.loop-name.shelf) (g.S.Shelf.holds c.read_input.new.shelf)
     (map string_bytes c.args.names.now) c.loop-name.given.items c.push.new.self.items c.loop-name.lanes.items c.push-in-loop-name.new.self.items c.loop-name.tally c.in_ok-input.input (omega (arith, c.loop-name-test.true)) c.name-item.is c.as_str.ensures.value c.loop-name.invariant
-    c.read_input.ensures.counts c.read_input.ensures.files c.in_ok-input.ensures.told c.in_ok-input.ensures.next c.in_ok-push.ensures.items c.in_ok-push-2.ensures.items
+    c.read_input.ensures.counts c.in_ok-input.ensures.no_fault c.read_input.ensures.files c.in_ok-input.ensures.told c.in_ok-input.ensures.next c.in_ok-push.ensures.items c.in_ok-push-2.ensures.items
 
 pub returns-clause-read : goal.returns-clause-read
 returns-clause-read g c =
