@@ -19,13 +19,13 @@ use Rattle.slnf_top.specs.declared.steps.Run.{Run}
 use Rattle.slnf_top.specs.Words.{Step}
 use Rattle.slnf_top.specs.Effects.{Holds, IsOutput, Reads, Calls, WriteRose, CaptureRose}
 use Rattle.slnf_top.specs.Answer.{plan_reading, capture_reading, captures_answer, answer_under, answer, no_tally}
-use Rattle.slnf_top.specs.Refused.{Refuses, Gives, RefusesCaptures, StopsWriting, StaysUnless}
+use Rattle.slnf_top.specs.Refused.{Refuses, Gives, RefusesCaptures, StopsWriting, StaysUnless, StopsAt}
 use Rattle.slnf_top.specs.Inputs.{IsPlanOf, AreHeld, AreTold, AreInputs, bytes_of}
-use Rattle.slnf_top.specs.Files.{files_of, HoldFiles, IsNamed, WritesFiles, FileRose, Wrote}
-use Rattle.slnf_top.specs.Written.{IsRunOf, IsDone, IsWritten, status_of, verdicts_in}
-use Rattle.slnf_top.specs.Outcome.{IsAnswer, MayWrite, CallsUnder, ReadsUnder, IsWrittenUnder, EndedUnder, Ended}
+use Rattle.slnf_top.specs.Files.{files_of, HoldFiles, IsNamed, WritesFiles, FileRose, Wrote, StoppedAt}
+use Rattle.slnf_top.specs.Written.{IsRunOf, IsDone, IsWritten, IsStopped, status_of, verdicts_in}
+use Rattle.slnf_top.specs.Outcome.{IsAnswer, MayWrite, CallsUnder, ReadsUnder, IsWrittenUnder, IsStoppedUnder, EndedUnder, Ended}
 use Rattle.slnf_top.proofs.Apart.{files_apart, named_output}
-use Rattle.slnf_top.proofs.Writing.{wrote_holds, hold_since}
+use Rattle.slnf_top.proofs.Writing.{wrote_holds, hold_since, stopped_since}
 use Rattle.slnf_top.proofs.Runs.{read_length}
 use Rattle.slnf_top.proofs.Passing.{told, told_weaker, plan_passed}
 
@@ -133,6 +133,7 @@ refused_under plan service out names ended before now held holds counts same h s
       answered = λ captures held_are. refusal_answer (CaptureRose service no_tally names before now held) (λ s. (others : List (List ℕ)) → AreHeld held names others → captures_answer service no_tally others ≡ Some s) (captures_answer service no_tally captures) ended (λ s gives. gives captures held_are) h;
       written = λ captures held_are done.
           absurd (not_done (CaptureRose service no_tally names before now held) (λ s. (others : List (List ℕ)) → AreHeld held names others → captures_answer service no_tally others ≡ Some s) ended h done);
+      stopped = λ captures held_are e. absurd (at_status status.WriteFault e);
     }
 
 -- memory was wanting behind the reading of the captures
@@ -221,8 +222,8 @@ rose_whole plan service out names inputs run a b c held middle holds w h = (
 )
 
 -- the writing was stopped
-pub stopped_under : (plan : Plan) (service : Service) (out : List ℕ) (names : List (List ℕ)) (inputs : Inputs) (run : Run) (ended : Status) (a b c : Faults) (held middle holds : Holds) → WritesRun plan service out names inputs run a b c held middle holds → StopsWriting (FileRose run.files b c) ended → StaysUnless status.WriteFault b c ended → EndedUnder plan service out names ended a c held holds
-stopped_under plan service out names inputs run ended a b c held middle holds w h still =
+pub stopped_under : (plan : Plan) (service : Service) (out : List ℕ) (names : List (List ℕ)) (inputs : Inputs) (run : Run) (ended : Status) (a b c : Faults) (held middle holds : Holds) → WritesRun plan service out names inputs run a b c held middle holds → StopsWriting (FileRose run.files b c) ended → StaysUnless status.WriteFault b c ended → StopsAt run.files b c middle holds ended → EndedUnder plan service out names ended a c held holds
+stopped_under plan service out names inputs run ended a b c held middle holds w h still stops =
     let at_status : (other : Status) → ended ≡ other → StopsWriting (FileRose run.files b c) other = λ other e. subst (StopsWriting (FileRose run.files b c)) e h in
     record {
       counts = read_then_write plan service out names inputs run a b c held middle holds w;
@@ -234,6 +235,15 @@ stopped_under plan service out names inputs run ended a b c held middle holds w 
       nothing_begun = λ not. absurd (stops_writes ended (FileRose run.files b c) h not);
       answered = λ captures held_are. stopped_answer ended _ (FileRose run.files b c) (w.are_inputs.passed captures held_are) h;
       written = λ captures held_are done. absurd (stopped_done ended (FileRose run.files b c) h done);
+      stopped = λ captures held_are e. record {
+        given = inputs.given;
+        lanes = inputs.lanes;
+        run = run;
+        are_bytes = told_bytes held names inputs.given captures w.are_inputs.told held_are;
+        are_read = w.are_inputs.read;
+        is_run = w.is_run;
+        stopped = stopped_since run.files a c held middle holds w.same (subst (λ (f : Faults). StoppedAt run.files f c middle holds) w.still (stops e));
+      };
     }
 
 -- how a run ends is an end
@@ -276,6 +286,7 @@ all_under plan service out names inputs run a b c held middle holds w wrote stil
         hold_files = files_hold plan service out names inputs run a b c held middle holds w wrote;
         ends = refl;
       };
+      stopped = λ captures held_are e. absurd (ends.2 e);
     }
 
 -- the plan was refused
@@ -295,6 +306,7 @@ refused_plan step ended before now held holds counts same h still =
           refusal_answer (Rose Read step.plan before now) (Gives plan_reading (held step.plan)) (answer plan captures) ended
           (λ s gives. ap (λ (r : Result Service Status). answer_under r captures) (told (λ b. plan_reading b ≡ Err s) (held step.plan) plan plan_at gives)) h;
       written = λ plan captures plan_at captures_at done. absurd (not_done (Rose Read step.plan before now) (Gives plan_reading (held step.plan)) ended h done);
+      stopped = λ plan captures plan_at captures_at e. absurd (at_status status.WriteFault e);
     }
 
 -- a fault of a capture, from an earlier time on and from what was held then
@@ -342,6 +354,24 @@ written_after step plan service ended plan_bytes captures held middle holds func
   ends = w.ends ∙ ap status_of w.is_run.left;
 }
 
+-- what was written when a fault stopped it
+stopped_after : (step : Step) (plan : Plan) (service : Service) (plan_bytes : List ℕ) (captures : List (List ℕ)) (a b c : Faults) (held middle holds : Holds) → plan.function ≡ Balancer service → IsPlanOf plan plan_bytes → b ≡ a → SameFiles held middle → IsStoppedUnder plan service step.out captures b c middle holds → IsStopped step plan_bytes captures a c held holds
+stopped_after step plan service plan_bytes captures a b c held middle holds function is still same w =
+    let files : StoppedAt w.run.files a c held holds = stopped_since w.run.files a c held middle holds same (subst (λ (f : Faults). StoppedAt w.run.files f c middle holds) still w.stopped) in
+    record {
+      plan = plan;
+      service = service;
+      given = w.given;
+      lanes = w.lanes;
+      is_plan = is.is;
+      is_service = function;
+      are_bytes = w.are_bytes;
+      are_read = w.are_read;
+      journal = w.is_run.journal;
+      explained = w.is_run.explained;
+      stopped = subst (λ (fs : List File). StoppedAt fs a c held holds) w.is_run.files files;
+    }
+
 -- the command went on behind the plan
 pub ended_under : (step : Step) (plan : Plan) (service : Service) (ended : Status) (a b c : Faults) (held middle holds : Holds) → plan.function ≡ Balancer service → plan.batch ≡ 1 → Moves (Only Read step.plan) a b → b ≡ a → SameFiles held middle → IfSome (held step.plan) (IsPlanOf plan) → EndedUnder plan service step.out step.captures ended b c middle holds → Ended step ended a c held holds
 ended_under step plan service ended a b c held middle holds function one read still same is_plan under = record {
@@ -363,4 +393,6 @@ ended_under step plan service ended a b c held middle holds function one read st
       subst (λ (r : Result Service Status). IsAnswer ended (answer_under r captures)) (sym passed) (under.answered captures (held_later held middle step.captures captures same captures_at));
   written = λ bytes captures plan_at captures_at done.
       written_after step plan service ended bytes captures held middle holds function (told (IsPlanOf plan) (held step.plan) bytes plan_at is_plan) same (under.written captures (held_later held middle step.captures captures same captures_at) done);
+  stopped = λ bytes captures plan_at captures_at e.
+      stopped_after step plan service bytes captures a b c held middle holds function (told (IsPlanOf plan) (held step.plan) bytes plan_at is_plan) still same (under.stopped captures (held_later held middle step.captures captures same captures_at) e);
 }

@@ -1,15 +1,15 @@
 -- Files that are written one after another.
-use Rattle.std.proofs.Common.{◌≡◌, ◌⊎◌, inl, inr, ℕ, List, [], ◌∷◌, refl, ap, sym, ◌∙◌}
+use Rattle.std.proofs.Common.{◌≡◌, ◌⊎◌, inl, inr, ℕ, Option, List, [], ◌∷◌, refl, ap, sym, ◌∙◌, subst}
 use Rattle.slnf_shelf.specs.declared.shelf.Call.{Call}
 use Rattle.slnf_shelf.specs.declared.shelf.Call.TheVariants.{Read, Begin, Append}
-use Rattle.slnf_shelf.specs.Shelf.{Faults, Moves, Rose, SameFiles, SameOthers, Writes, set_to}
+use Rattle.slnf_shelf.specs.Shelf.{Faults, Moves, Rose, SameFiles, SameOthers, Writes, WritesFront, WritesSome, set_to}
 use Rattle.slnf_shelf.proofs.Laws.{Moves-still, Moves-then, Moves-wider, Rose-after}
 use Rattle.slnf_top.specs.declared.statuses.Status.{Status}
 use Rattle.slnf_top.specs.declared.statuses.Status.TheVariants as status
 use Rattle.slnf_top.specs.declared.outputs.File.{File}
 use Rattle.slnf_top.specs.Effects.{Holds}
-use Rattle.slnf_top.specs.Files.{HoldFiles, IsNamed, WritesFiles, FileRose, Wrote, WroteOne}
-use Rattle.slnf_top.specs.Refused.{StopsWriting}
+use Rattle.slnf_top.specs.Files.{HoldFiles, IsNamed, WritesFiles, FileRose, Wrote, WroteOne, WroteSome, StoppedAt}
+use Rattle.slnf_top.specs.Refused.{StopsWriting, StopsWithin, StopsAt}
 use Rattle.slnf_top.proofs.Apart.{AreApart}
 
 -- a name that none of them has holds what it held
@@ -45,10 +45,11 @@ pub record WritesSoFar (files rest : List File) (a b : Faults) (h m : Holds) : T
   pub still : b ≡ a
   pub others : (other : List ℕ) → ¬ IsNamed files other → m other ≡ h other
   pub written : (k : Holds) → Wrote rest m k → Wrote files h k
+  pub stopped : (c : Faults) (k : Holds) → StoppedAt rest a c m k → StoppedAt files a c h k
   pub among : (name : List ℕ) → IsNamed rest name → IsNamed files name
 
 pub writes_start : (files : List File) (a : Faults) (h : Holds) → WritesSoFar files files a a h h
-writes_start files a h = record { moves = Moves-still (WritesFiles files) a; still = refl; others = λ other apart. refl; written = λ k w. w; among = λ name n. n }
+writes_start files a h = record { moves = Moves-still (WritesFiles files) a; still = refl; others = λ other apart. refl; written = λ k w. w; stopped = λ c k w. w; among = λ name n. n }
 
 -- the writes of one are among those of all
 one_of : (files rest : List File) (file : File) → ((name : List ℕ) → IsNamed (file ∷ rest) name → IsNamed files name) → (call : Call) (name : List ℕ) → Writes file.name call name → WritesFiles files call name
@@ -70,6 +71,7 @@ writes_next files rest file a b c h m k far moved same others one = record {
   still = same ∙ far.still;
   others = others_next files rest file a b h m k far others;
   written = λ last w. far.written last (k, one, w);
+  stopped = λ now last w. far.stopped now last (inr (k, one, w));
   among = λ name n. far.among name (inr n);
 }
 
@@ -103,3 +105,22 @@ stopped_next files rest file a b c h m ended far stopped =
       ],
     ))
     stopped
+
+-- and it stopped at that file
+pub stops_next : (files rest : List File) (file : File) (a b c : Faults) (h m k : Holds) (ended : Status) → WritesSoFar files (file ∷ rest) a b h m → StopsWithin file b c m k ended → StopsAt files a c h k ended
+stops_next files rest file a b c h m k ended far within e =
+    far.stopped c k (inl (subst (λ (f : Faults). WroteSome file f c m k) far.still (within e)))
+
+-- the same from what another name held
+pub stopped_since : (files : List File) (a c : Faults) (h m k : Holds) → SameFiles h m → StoppedAt files a c m k → StoppedAt files a c h k
+stopped_since [] a c h m k same w = absurd w
+stopped_since (file ∷ files) a c h m k same (inl some) = inl (record {
+  text = subst (λ (o : Option (List ℕ)). WritesSome file.text o (k file.name)) (same file.name) some.text;
+  front = λ not. subst (λ (o : Option (List ℕ)). WritesFront file.text o (k file.name)) (same file.name) (some.front not);
+  others = λ other apart. some.others other apart ∙ same other;
+})
+stopped_since (file ∷ files) a c h m k same (inr w) = inr (
+  w.0,
+  record { text = w.1.text ∙ ap (set_to file.text) (same file.name); others = λ other apart. w.1.others other apart ∙ same other },
+  w.2,
+)

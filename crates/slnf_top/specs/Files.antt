@@ -4,7 +4,7 @@ use Rattle.slnf_base.specs.declared.packets.Verdict.{Verdict}
 use Rattle.slnf_access.specs.declared.requests.Entry.{Entry}
 use Rattle.slnf_shelf.specs.declared.shelf.Call.{Call}
 use Rattle.slnf_shelf.specs.declared.shelf.Call.TheVariants.{Read, Begin, Append}
-use Rattle.slnf_shelf.specs.Shelf.{Faults, Rose, SameFiles, SameOthers, set_to}
+use Rattle.slnf_shelf.specs.Shelf.{Faults, Rose, SameFiles, SameOthers, WritesFront, WritesSome, set_to}
 use Rattle.slnf_flight.specs.Output.{output_of}
 use Rattle.slnf_journal.specs.Journal.{journal_text}
 use Rattle.slnf_journal.specs.Verdicts.{verdicts_text}
@@ -58,3 +58,15 @@ pub record WroteOne (file : File) (held holds : Holds) : Type 0 where
 abbrev pub Wrote : List File → Holds → Holds → Type 0
 Wrote [] held holds = SameFiles held holds
 Wrote (file ∷ files) held holds = (middle : Holds) × WroteOne file held middle × Wrote files middle holds
+
+-- One file was written up to some byte, or is as before, and the second only where its begin met a fault.
+pub record WroteSome (file : File) (before now : Faults) (held holds : Holds) : Type 0 where
+  pub text : WritesSome file.text (held file.name) (holds file.name)
+  pub front : ¬ Rose Begin file.name before now → WritesFront file.text (held file.name) (holds file.name)
+  pub others : SameOthers file.name held holds
+
+-- The writing stopped at one of these files: those before it were written, and those behind it are as before.
+abbrev pub StoppedAt : List File → Faults → Faults → Holds → Holds → Type 0
+StoppedAt [] before now held holds = ⊥
+StoppedAt (file ∷ files) before now held holds =
+    WroteSome file before now held holds ⊎ ((middle : Holds) × WroteOne file held middle × StoppedAt files before now middle holds)

@@ -14,8 +14,8 @@ use Rattle.slnf_top.specs.Words.{Step}
 use Rattle.slnf_top.specs.Effects.{Holds, IsAmong, IsOutput, Reads, Calls, ReadRose, WriteRose, CaptureRose}
 use Rattle.slnf_top.specs.Answer.{answer, captures_answer, no_tally}
 use Rattle.slnf_top.specs.Inputs.{AreHeld, AreRead, bytes_of}
-use Rattle.slnf_top.specs.Files.{HoldFiles}
-use Rattle.slnf_top.specs.Written.{IsRunOf, IsDone, IsWritten, status_of}
+use Rattle.slnf_top.specs.Files.{HoldFiles, StoppedAt}
+use Rattle.slnf_top.specs.Written.{IsRunOf, IsDone, IsWritten, IsStopped, status_of}
 
 -- Want of memory and faults of reading may take the place of an answer. Else a refusal is the expected one, and a run that
 -- wrote or ended expects none.
@@ -67,6 +67,16 @@ pub record IsWrittenUnder (plan : Plan) (service : Service) (out : List ℕ) (ca
   pub hold_files : HoldFiles run.files held holds
   pub ends : ended ≡ status_of run.left
 
+-- The writing of a run's files stopped at one of them.
+pub record IsStoppedUnder (plan : Plan) (service : Service) (out : List ℕ) (captures : List (List ℕ)) (before now : Faults) (held holds : Holds) : Type 0 where
+  pub given : List Given
+  pub lanes : List Lane
+  pub run : Run
+  pub are_bytes : bytes_of given ≡ captures
+  pub are_read : AreRead given lanes
+  pub is_run : IsRunOf plan service out given lanes run
+  pub stopped : StoppedAt run.files before now held holds
+
 -- How the command ended behind a plan that passed, and has this service.
 pub record EndedUnder (plan : Plan) (service : Service) (out : List ℕ) (names : List (List ℕ)) (ended : Status) (before now : Faults) (held holds : Holds) : Type 0 where
   pub counts : Moves (CallsUnder out names) before now
@@ -78,6 +88,7 @@ pub record EndedUnder (plan : Plan) (service : Service) (out : List ℕ) (names 
   pub nothing_begun : ¬ MayWrite ended → Moves (ReadsUnder names) before now × SameFiles held holds
   pub answered : (captures : List (List ℕ)) → AreHeld held names captures → IsAnswer ended (captures_answer service no_tally captures)
   pub written : (captures : List (List ℕ)) → AreHeld held names captures → IsDone ended → IsWrittenUnder plan service out captures ended held holds
+  pub stopped : (captures : List (List ℕ)) → AreHeld held names captures → ended ≡ status.WriteFault → IsStoppedUnder plan service out captures before now held holds
 
 -- How the command ended.
 pub record Ended (step : Step) (ended : Status) (before now : Faults) (held holds : Holds) : Type 0 where
@@ -90,3 +101,4 @@ pub record Ended (step : Step) (ended : Status) (before now : Faults) (held hold
   pub nothing_begun : ¬ MayWrite ended → Moves (Reads step) before now × SameFiles held holds
   pub answered : (plan : List ℕ) (captures : List (List ℕ)) → held step.plan ≡ Some plan → AreHeld held step.captures captures → IsAnswer ended (answer plan captures)
   pub written : (plan : List ℕ) (captures : List (List ℕ)) → held step.plan ≡ Some plan → AreHeld held step.captures captures → IsDone ended → IsWritten step plan captures ended held holds
+  pub stopped : (plan : List ℕ) (captures : List (List ℕ)) → held step.plan ≡ Some plan → AreHeld held step.captures captures → ended ≡ status.WriteFault → IsStopped step plan captures before now held holds

@@ -8,6 +8,8 @@ use Rattle.slnf_top.specs.declared.inputs.Tally.{Tally}
 use Rattle.slnf_top.specs.Answer.{captures_answer}
 use Rattle.slnf_top.specs.Effects.{Holds, CaptureRose}
 use Rattle.slnf_top.specs.Inputs.{AreHeld}
+use Rattle.slnf_top.specs.declared.outputs.File.{File}
+use Rattle.slnf_top.specs.Files.{WroteSome, StoppedAt}
 
 -- A read was refused: its file met a fault (`rose`), memory was wanting, or the status is one that the bytes give.
 abbrev pub Refuses : Type 0 → (Status → Type 0) → Status → Type 0
@@ -52,3 +54,10 @@ StopsWriting rose status.WriteFault = rose
 StopsWriting rose status.NoMemory = Unit {0}
 StopsWriting rose (status.OverLimit limit count) = ⊥
 StopsWriting rose (status.NotBuilt file) = ⊥
+
+-- a fault of writing stopped it within this file, or at one of these files
+abbrev pub StopsWithin : File → Faults → Faults → Holds → Holds → Status → Type 0
+StopsWithin file before now held holds ended = ended ≡ status.WriteFault → WroteSome file before now held holds
+
+abbrev pub StopsAt : List File → Faults → Faults → Holds → Holds → Status → Type 0
+StopsAt files before now held holds ended = ended ≡ status.WriteFault → StoppedAt files before now held holds

@@ -23,7 +23,8 @@ use Rattle.slnf_top.specs.declared.steps.Run.{Run}
 use Rattle.slnf_top.specs.Words.{Step}
 use Rattle.slnf_top.specs.Effects.{Holds}
 use Rattle.slnf_top.specs.Inputs.{AreRead, bytes_of}
-use Rattle.slnf_top.specs.Files.{files_of, HoldFiles}
+use Rattle.slnf_top.specs.Files.{files_of, HoldFiles, StoppedAt}
+use Rattle.slnf_shelf.specs.Shelf.{Faults}
 
 -- The journal is the schedule's, and a run of the plan over the lanes; one ordinary balancer explains it, and no client's
 -- backend changes.
@@ -76,3 +77,18 @@ pub record IsWritten (step : Step) (plan_bytes : List ℕ) (captures : List (Lis
   pub hold_files : HoldFiles (files_of step.out given (verdicts_in plan service lanes journal) journal) held holds
   -- Ok where no packet is left, and Left where some are.
   pub ends : ended ≡ status_of (left_in (verdicts_in plan service lanes journal))
+
+-- The writing of the texts of such a run stopped at one of its files: those before it stand whole, it holds a front of its
+-- text or, where its begin met a fault, what it held before, and those behind it hold what they held.
+pub record IsStopped (step : Step) (plan_bytes : List ℕ) (captures : List (List ℕ)) (before now : Faults) (held holds : Holds) : Type 0 where
+  pub plan : Plan
+  pub service : Service
+  pub given : List Given
+  pub lanes : List Lane
+  pub is_plan : plan_of_bytes plan_bytes ≡ Ok (plain plan)
+  pub is_service : plan.function ≡ Balancer service
+  pub are_bytes : bytes_of given ≡ captures
+  pub are_read : AreRead given lanes
+  pub journal : List Entry
+  pub explained : IsExplained plan service lanes journal
+  pub stopped : StoppedAt (files_of step.out given (verdicts_in plan service lanes journal) journal) before now held holds

@@ -6,7 +6,7 @@ ghost use Rattle.slnf_top.specs.Effects.{IsOutput, Reads, Calls, ReadRose, Write
 ghost use Rattle.slnf_top.specs.Answer.{answer};
 ghost use Rattle.slnf_top.specs.Inputs.{AreHeld, IsBuilt};
 ghost use Rattle.slnf_top.specs.Outcome.{IsAnswer, MayWrite, Ended, EndedUnder};
-ghost use Rattle.slnf_top.specs.Written.{IsDone, IsWritten, status_of};
+ghost use Rattle.slnf_top.specs.Written.{IsDone, IsWritten, IsStopped, status_of};
 
 use crate::inputs::{read_captures, read_plan_file};
 use crate::outputs::write_files;
@@ -54,6 +54,12 @@ pub fn top_plain<S: Shelf>(alloc: Global, words: &[String], shelf: &mut S) -> St
     ensures written { (step : Step) (plan : List ℕ) (captures : List (List ℕ)) → step_words (map string_bytes words.now) ≡ Some step
         → S.holds shelf.old step.plan ≡ Some plan → AreHeld (S.holds shelf.old) step.captures captures → IsDone result
         → IsWritten step plan captures result (S.holds shelf.old) (S.holds shelf.new) }
+
+    // After WriteFault the files before the one with the fault hold the texts of such a run, it holds a front of its text
+    // or what it held, and those behind it hold what they held.
+    ensures stopped { (step : Step) (plan : List ℕ) (captures : List (List ℕ)) → step_words (map string_bytes words.now) ≡ Some step
+        → S.holds shelf.old step.plan ≡ Some plan → AreHeld (S.holds shelf.old) step.captures captures → result ≡ Status.WriteFault
+        → IsStopped step plan captures (S.faults shelf.old) (S.faults shelf.new) (S.holds shelf.old) (S.holds shelf.new) }
 {
     match step_words(words) {
         None => Status::Usage,

@@ -5,7 +5,7 @@ ghost use Rattle.slnf_flight.specs.Output.{output_of};
 ghost use Rattle.slnf_top.specs.Names.{capture_name};
 ghost use Rattle.slnf_top.specs.Inputs.{IsGiven, AreGiven, AreSized};
 ghost use Rattle.slnf_top.specs.Files.{capture_files, files_of, IsNamed, WritesFiles, FileRose, Wrote, WroteOne};
-ghost use Rattle.slnf_top.specs.Refused.{StopsWriting, StaysUnless};
+ghost use Rattle.slnf_top.specs.Refused.{StopsWriting, StaysUnless, StopsWithin, StopsAt};
 
 use crate::inputs::Given;
 use crate::names;
@@ -98,7 +98,8 @@ fn capture_file(
     Ok(File::of(names::capture_name(alloc, out, lane)?, text))
 }
 
-/// Writes these files one after another. After an error the files before the one that was being written stand whole.
+/// Writes these files one after another. After a fault those before the one that was being written stand whole, and those
+/// behind it are as before.
 pub fn write_files<S: Shelf>(shelf: &mut S, files: &[File]) -> Result<(), Status>
     ensures counts { Moves (WritesFiles files.now) (S.faults shelf.old) (S.faults shelf.new) }
     ensures no_fault { OnOk result (S.faults shelf.new ≡ S.faults shelf.old) }
@@ -106,6 +107,7 @@ pub fn write_files<S: Shelf>(shelf: &mut S, files: &[File]) -> Result<(), Status
     ensures others { (other : List ℕ) → ¬ IsNamed files.now other → S.holds shelf.new other ≡ S.holds shelf.old other }
     ensures written { OnOk result (Wrote files.now (S.holds shelf.old) (S.holds shelf.new)) }
     ensures stopped { IfErr result (StopsWriting (FileRose files.now (S.faults shelf.old) (S.faults shelf.new))) }
+    ensures at_one { IfErr result (StopsAt files.now (S.faults shelf.old) (S.faults shelf.new) (S.holds shelf.old) (S.holds shelf.new)) }
 {
     for file in files {
         write_file(shelf, file)?;
@@ -122,6 +124,7 @@ fn write_file<S: Shelf>(shelf: &mut S, file: &File) -> Result<(), Status>
     ensures written { OnOk result (WroteOne file.now (S.holds shelf.old) (S.holds shelf.new)) }
     ensures stopped { IfErr result (StopsWriting (Rose Call.Begin file.now.name (S.faults shelf.old) (S.faults shelf.new)
         ⊎ Rose Call.Append file.now.name (S.faults shelf.old) (S.faults shelf.new))) }
+    ensures within { IfErr result (StopsWithin file.now (S.faults shelf.old) (S.faults shelf.new) (S.holds shelf.old) (S.holds shelf.new)) }
 {
     match write_whole(shelf, file.name.as_str(), file.text.as_slice()) {
         Ok(()) => Ok(()),

@@ -3,7 +3,7 @@ use Rattle.std.specs.Prelude.{string_bytes}
 use Rattle.slnf_top.specs.declared.statuses.Status.{Status}
 use Rattle.slnf_top.specs.declared.outputs.File.{File}
 use Rattle.slnf_top.specs.Files.{Wrote, FileRose}
-use Rattle.slnf_top.specs.Refused.{StopsWriting}
+use Rattle.slnf_top.specs.Refused.{StopsWriting, StopsAt}
 use Rattle.slnf_top.specs.Outcome.{EndedUnder}
 use Rattle.slnf_top.proofs.Runs.{length_map}
 use Rattle.slnf_top.proofs.Ending.{WritesRun, writes_run, input_lanes, all_under, stopped_under}
@@ -45,3 +45,4 @@ returns g c =
     c.as_slice.ensures c.read_captures.ensures.counts c.in-Ok.ensures.no_fault c.read_captures.ensures.files c.in-Ok.ensures.read c.in-Ok-run_inputs.ensures (omega arith) c.write_files.ensures.counts c.write_files.ensures.others in
     stopped_under c.args.plan.now c.args.service.now out names inputs run c.in-Err-write_files.status (g.S.Shelf.faults c.args.shelf.now) (g.S.Shelf.faults c.read_captures.new.shelf) (g.S.Shelf.faults c.write_files.new.shelf) (g.S.Shelf.holds c.args.shelf.now) (g.S.Shelf.holds c.read_captures.new.shelf) (g.S.Shelf.holds c.write_files.new.shelf) writes
     (subst (λ (fs : List File). StopsWriting (FileRose fs (g.S.Shelf.faults c.read_captures.new.shelf) (g.S.Shelf.faults c.write_files.new.shelf)) c.in-Err-write_files.status) c.as_slice.ensures c.in-Err-write_files.ensures.stopped) c.in-Err-write_files.ensures.still
+    (subst (λ (fs : List File). StopsAt fs (g.S.Shelf.faults c.read_captures.new.shelf) (g.S.Shelf.faults c.write_files.new.shelf) (g.S.Shelf.holds c.read_captures.new.shelf) (g.S.Shelf.holds c.write_files.new.shelf) c.in-Err-write_files.status) c.as_slice.ensures c.in-Err-write_files.ensures.at_one)

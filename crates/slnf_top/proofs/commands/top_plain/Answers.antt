@@ -19,3 +19,11 @@ returns-in-Some-clause-written g c = λ step plan captures is plan_at captures_a
     let all : Ended step c.run_step.result (g.S.Shelf.faults c.args.shelf.now) (g.S.Shelf.faults c.run_step.new.shelf) (g.S.Shelf.holds c.args.shelf.now) (g.S.Shelf.holds c.run_step.new.shelf) =
     subst (λ (s : Step). Ended s c.run_step.result (g.S.Shelf.faults c.args.shelf.now) (g.S.Shelf.faults c.run_step.new.shelf) (g.S.Shelf.holds c.args.shelf.now) (g.S.Shelf.holds c.run_step.new.shelf)) same c.run_step.ensures in
     all.written plan captures plan_at captures_at done
+
+pub returns-in-Some-clause-stopped : goal.returns-in-Some-clause-stopped
+returns-in-Some-clause-stopped g c = λ step plan captures is plan_at captures_at ended.
+    let some = c.in-Some.ensures.some in
+    let same : record { plan = c.in-Some.step.plan.now; out = c.in-Some.step.out.now; captures = map string_bytes c.in-Some.step.captures.now } ≡ step = cc (some, is) in
+    let all : Ended step c.run_step.result (g.S.Shelf.faults c.args.shelf.now) (g.S.Shelf.faults c.run_step.new.shelf) (g.S.Shelf.holds c.args.shelf.now) (g.S.Shelf.holds c.run_step.new.shelf) =
+    subst (λ (s : Step). Ended s c.run_step.result (g.S.Shelf.faults c.args.shelf.now) (g.S.Shelf.faults c.run_step.new.shelf) (g.S.Shelf.holds c.args.shelf.now) (g.S.Shelf.holds c.run_step.new.shelf)) same c.run_step.ensures in
+    all.stopped plan captures plan_at captures_at ended
