@@ -15,6 +15,7 @@ use Rattle.slnf_keys.specs.Values.{claim_of}
 use Rattle.slnf_run.proofs.Splits.{IsSplit, split_at}
 use Rattle.slnf_nat.specs.Flights.{Look, Try, Confirm, Release, Last, NatFlight, Out, In, Sweep, first_of}
 use Rattle.slnf_nat.specs.Machine.{Nat, port_key, nat_goes}
+use Rattle.slnf_nat.specs.Laws.{HasSource, HaveSources}
 use Rattle.slnf_nat.specs.Leaks.{Hangs}
 use Rattle.slnf_nat.specs.Given.{IsNat, IsNatList}
 use Rattle.slnf_nat.proofs.Effects.{after}
@@ -34,15 +35,8 @@ hangs_packet nat proto port inside since first (Flies (Sweep state q p base)) b 
 hangs_packet nat proto port inside since first (Ends end) b h = absurd h
 
 module _ (nat : Nat) (is_nat : IsNat nat) (base_at : ℕ → ℕ) (begins : ℕ → ℕ → Stand NatFlight) (es : List Entry) (given : IsNatList nat base_at begins es) where
-  -- an item is a packet on its way out of this protocol and with this source
-  abbrev pub HasSource : Proto → Pair → Type 0
-  HasSource proto inside = (i k j : ℕ) × (packet : Packet) × (begins i k ≡ Flies (Out Look j packet)) × (packet.proto ≡ proto) × (packet.source ≡ inside)
-
-  abbrev pub AllMade : Cells → Type 0
-  AllMade cells = (proto : Proto) (port : Pair) (claim : Claim) (held : Held) → IsPair port → cells (port_key proto port) ≡ Some held → claim_of held.value.0 ≡ Some claim → HasSource proto claim.inside
-
-  step : (before later : List Entry) (e : Entry) → es ≡ before ++ e ∷ later → AllMade (map_after empty before) → AllMade (map_after empty (before ++ e ∷ []))
-  step before later e split all = subst AllMade (sym push) next_all
+  step : (before later : List Entry) (e : Entry) → es ≡ before ++ e ∷ later → HaveSources begins (map_after empty before) → HaveSources begins (map_after empty (before ++ e ∷ []))
+  step before later e split all = subst (HaveSources begins) (sym push) next_all
     where
       push : map_after empty (before ++ e ∷ []) ≡ after (map_after empty before) e
       push = λ j key. cell_of-append key None before (e ∷ []) j
@@ -50,10 +44,10 @@ module _ (nat : Nat) (is_nat : IsNat nat) (base_at : ℕ → ℕ) (begins : ℕ 
       next : (flight : NatFlight) × IsNextOf nat base_at begins before e flight
       next = next_of nat is_nat base_at begins es given before later e split
 
-      next_all : AllMade (after (map_after empty before) e)
+      next_all : HaveSources begins (after (map_after empty before) e)
       next_all proto port claim held fits there reads = go (left_after nat is_nat base_at e (map_after empty before) next.0 proto port held next.1.asked next.1.replied next.1.ranged fits there)
         where
-          go : Left nat is_nat base_at e (map_after empty before) next.0 proto port (map_after empty before (port_key proto port)) held → HasSource proto claim.inside
+          go : Left nat is_nat base_at e (map_after empty before) next.0 proto port (map_after empty before (port_key proto port)) held → HasSource begins proto claim.inside
           go (inl was) = all proto port claim held fits was reads
           go (inr new) =
               let same : (let c : Claim = record { incarnation = e.incarnation; inside = new.0 } in c) ≡ claim = same_Some _ claim (sym new.1 ∙ reads) in
@@ -61,11 +55,11 @@ module _ (nat : Nat) (is_nat : IsNat nat) (base_at : ℕ → ℕ) (begins : ℕ 
               (e.incarnation, e.item, r.0, r.1, next.1.began ∙ ap (λ f. Flies f) r.2, r.3, r.4 ∙ ap (λ (c : Claim). c.inside) same)
 
   -- After each prefix each claim was put by a packet on its way out, of the claim's protocol, whose source the claim names.
-  pub claims_made : (t : ℕ) → t ≤ length es → AllMade (map_after empty (take t es))
+  pub claims_made : (t : ℕ) → t ≤ length es → HaveSources begins (map_after empty (take t es))
   claims_made zero h = λ proto port claim held fits there reads. absurd (nothing held there)
     where
       nothing : (held : Held) → None ≡ Some held → ⊥
       nothing held q = cc
   claims_made (suc t) h =
       let r : (e : Entry) × IsSplit es t e = split_at es t h in
-      subst (λ l. AllMade (map_after empty l)) (sym r.1.front) (step (take t es) (drop (suc t) es) r.0 r.1.whole (claims_made t (omega arith)))
+      subst (λ l. HaveSources begins (map_after empty l)) (sym r.1.front) (step (take t es) (drop (suc t) es) r.0 r.1.whole (claims_made t (omega arith)))

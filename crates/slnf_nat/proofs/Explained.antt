@@ -35,6 +35,7 @@ use Rattle.slnf_nat.specs.Kept.{Holds, IsBoxed, IsKept}
 use Rattle.slnf_nat.specs.Given.{IsNat, IsRanged, IsNatList}
 use Rattle.slnf_nat.proofs.Effects.{after, read_reply}
 use Rattle.slnf_nat.proofs.Boxing.{Boxes, BoxesBy, choice_for, decides, pair_same}
+use Rattle.slnf_nat.proofs.Lists.{rising_before}
 use Rattle.slnf_nat.proofs.States.{Outcome}
 use Rattle.slnf_nat.proofs.Flying.{stamped_step, outcome_of, flying_step, same_flight}
 use Rattle.slnf_nat.proofs.Visiting.{agree_all}
@@ -116,13 +117,13 @@ module _ (nat : Nat) (is_nat : IsNat nat) (base_at : ℕ → ℕ) (begins : ℕ 
     number = length before
 
     outcome : Outcome nat base_at before e (map_after empty before) (after (map_after empty before) e) flight
-    outcome = outcome_of nat is_nat base_at before e (map_after empty before) kept.stamped kept.live (given.rising before later e split) (given.epochs before later e split) (given.bases e.incarnation) next.replied flight next.asked next.ranged (kept.flying.holds e.incarnation e.item flight next.stands)
+    outcome = outcome_of nat is_nat base_at before e (map_after empty before) kept.stamped kept.live (rising_before es before later e given.rising split) (given.epochs before later e split) (given.bases e.incarnation) next.replied flight next.asked next.ranged (kept.flying.holds e.incarnation e.item flight next.stands)
 
     -- all but the box
     kept_but : (d : List Flow) → IsBoxed d (after (map_after empty before) e) → Inv (before ++ e ∷ []) d
     kept_but d boxed =
         subst (λ m. IsKept nat base_at begins (before ++ e ∷ []) m (λ i k. stand_of (nat_scene nat begins) i k (before ++ e ∷ [])) d) (sym (map_push before e)) (record {
-          stamped = stamped_step before e (map_after empty before) (given.rising before later e split) kept.stamped;
+          stamped = stamped_step before e (map_after empty before) (rising_before es before later e given.rising split) kept.stamped;
           live = outcome.live;
           flying =
               flying_step nat is_nat base_at begins before e (map_after empty before) (after (map_after empty before) e)

@@ -31,7 +31,7 @@ use Rattle.slnf_nat.proofs.Effects.{same_or_not, after, other_cell, own_cell, pu
 use Rattle.slnf_nat.proofs.Flying.{own_parts}
 use Rattle.slnf_nat.proofs.Nexts.{IsNextOf, next_of, next_stands, others_stand, flow_stays}
 use Rattle.slnf_nat.proofs.Explained.{flow_there}
-use Rattle.slnf_nat.proofs.Theorems.{kept_before}
+use Rattle.slnf_nat.proofs.LiveFlows.{kept_before}
 use Rattle.slnf_nat.proofs.Sweeping.{gone_or_there}
 
 -- what a put leaves was there, or is new, and then the reply is Done

@@ -19,7 +19,7 @@ use Rattle.slnf_nat.specs.LeaksNothing.{IsSweepAt, IsFinishedAt, IsSweepItem, Is
 use Rattle.slnf_nat.proofs.Nexts.{IsNextOf, next_of}
 use Rattle.slnf_nat.proofs.Leaks as leaks
 use Rattle.slnf_nat.proofs.LeaksOfRun.{nat_list_of_image, below_next, has_swept, run_tidy, run_through}
-use Rattle.slnf_nat.proofs.FromRun.{base_of-below}
+use Rattle.slnf_nat.proofs.Bases.{base_of-below}
 use Rattle.slnf_nat.proofs.Settling.{settles}
 
 module _ {G : Type 0} (s : Setting G NatArrival) (into : NatFlight → G) (nat : Nat) (is_nat : IsNat nat) (begins : ℕ → ℕ → Stand NatFlight) (es : List Entry) (is : IsNatSetting s into nat begins es) (run : IsRun s es) where

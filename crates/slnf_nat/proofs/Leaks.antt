@@ -28,8 +28,9 @@ use Rattle.slnf_nat.proofs.Effects.{same_or_not, after, read_effect, delete_none
 use Rattle.slnf_nat.proofs.Flying.{same_flight}
 use Rattle.slnf_nat.proofs.Nexts.{IsNextOf, next_of, ended_stays}
 use Rattle.slnf_nat.proofs.Explained.{nat_keeps}
-use Rattle.slnf_nat.proofs.Theorems.{kept_before}
-use Rattle.slnf_nat.proofs.Claims.{HasSource, claims_made}
+use Rattle.slnf_nat.proofs.LiveFlows.{kept_before}
+use Rattle.slnf_nat.specs.Laws.{HasSource}
+use Rattle.slnf_nat.proofs.Claims.{claims_made}
 use Rattle.slnf_nat.proofs.Sweeping.{swept_clear, sweep_began}
 use Rattle.slnf_nat.proofs.Hangs.{accounted}
 
@@ -95,7 +96,7 @@ module _ (nat : Nat) (is_nat : IsNat nat) (base_at : ℕ → ℕ) (begins : ℕ 
   pub tidy : (t base : ℕ) → t ≤ length es → HasSwept nat begins (take t es) base → IsTidy nat (at t) base
   tidy t base h swept proto port claim fits is less =
       let has : nat.has port ≡ true = on_pool t h proto port claim fits is in
-      let made : HasSource nat is_nat base_at begins es given proto claim.inside = claims_made nat is_nat base_at begins es given t h proto port claim is.held fits is.there is.reads in
+      let made : HasSource begins proto claim.inside = claims_made nat is_nat base_at begins es given t h proto port claim is.held fits is.there is.reads in
       let r = swept proto port fits has (made.0, made.1, made.2, made.3, made.4, made.5) in
       (has, (claim-coded.has is.held.value.0 claim is.reads).1.1, go r.0 r.1 r.2 r.3 r.4 (stand_of (nat_scene nat begins) r.0 r.1 (take t es)) refl r.5)
     where

@@ -1,5 +1,5 @@
 -- Nothing leaks in a run of a setting with the NAT's scene.
-use Rattle.std.proofs.Common.{◌≡◌, inl, inr, ℕ, zero, suc, ◌+◌, ◌-◌, ◌<◌, ◌≤◌, nat_lt, not, ◌&&◌, Bool, true, false, cond, ◌==◌, Option, Some, None, List, [], ◌∷◌, ◌++◌, length, take, drop, slice_get, refl, ap, sym, ◌∙◌, subst, arith, take-append-drop}
+use Rattle.std.proofs.Common.{◌≡◌, inl, inr, ℕ, zero, suc, ◌+◌, ◌-◌, ◌<◌, ◌≤◌, nat_lt, not, ◌&&◌, Bool, true, false, cond, ◌==◌, Option, Some, None, List, [], ◌∷◌, ◌++◌, length, take, drop, slice_get, refl, ap, sym, ◌∙◌, subst, arith, take-append-drop, append_assoc}
 use Rattle.std.specs.List.{range_with_len, AllByRecursion}
 use Rattle.std.proofs.lemmas.Bool.{eqb-true, ltb-false, ltb-true}
 use Rattle.std.proofs.lemmas.Option.{same_Some}
@@ -20,10 +20,11 @@ use Rattle.slnf_nat.specs.NatBox.{NatArrival}
 use Rattle.slnf_nat.specs.NatScene.{nat_scene}
 use Rattle.slnf_nat.specs.Given.{IsNat, IsRanged, IsNatList}
 use Rattle.slnf_nat.specs.Leaks.{HasSwept, IsSweepOf, IsThrough, IsTidy}
-use Rattle.slnf_nat.proofs.FromRun.{own_of-part, append_assoc, base_of-rises, base_of-below}
+use Rattle.slnf_run.proofs.Runs.{own_in_part}
+use Rattle.slnf_nat.proofs.Bases.{base_of-rises, base_of-below}
 use Rattle.slnf_nat.proofs.Leaks.{tidy}
 use Rattle.slnf_access.proofs.Elements.{each-splits, each-weaker}
-use Rattle.slnf_access.proofs.Orders.{stamps_rise}
+use Rattle.slnf_access.proofs.Orders.{rises_in_order}
 
 -- each item of a range is offered, and so has ended where all offers have
 ended_in_range : {F A : Type 0} (s : Setting F A) (i : ℕ) (es : List Entry) (limit : ℕ) (first : ℕ → Option ℕ) (number size : ℕ) (keys : List ℕ) (a n k : ℕ) → a ≤ k → k < a + n → AllEnded s i es (batched limit first number size keys (range_with_len a n)) → HasEnded (stand_of s.scene i k es)
@@ -126,16 +127,14 @@ nat_list_of_image s into nat begins es image firsts ranges run = record {
   legal = run.legal;
   paths = λ i k.
       path_as into (nat_machine nat) (s.scene.machine i) (image.machine i) (begins i k) (own_of i k es)
-      (subst (λ st. IsPath (s.scene.machine i) st (own_of i k es)) (image.begins i k) (subst (IsPath (s.scene.machine i) (s.scene.begins i k)) (own_of-part i k es) (run.paths i k)));
+      (subst (λ st. IsPath (s.scene.machine i) st (own_of i k es)) (image.begins i k) (subst (IsPath (s.scene.machine i) (s.scene.begins i k)) (own_in_part i k es) (run.paths i k)));
   firsts = firsts;
   ranges = ranges;
   bases = base_of-below s.eras;
   epochs = λ before later e split.
       each-splits (λ f. own_base s.eras f.incarnation ≤ own_base s.eras e.incarnation) before (λ xs ys f h.
       base_of-rises s.eras (era_of s.eras f.incarnation) (era_of s.eras e.incarnation) (run.by_epoch xs ys later f e (whole before later e xs ys f split h)));
-  rising = λ before later e split.
-      each-splits (λ f. key_of f.request ≡ key_of e.request → f.stamp < e.stamp) before (λ xs ys f h key.
-      stamps_rise s.shards xs ys later f e (subst InOrder (whole before later e xs ys f split h) run.in_order) (subst (AllByRecursion (IsInShard s.shards)) (whole before later e xs ys f split h) run.in_shards) key);
+  rising = rises_in_order s.shards es run.in_order run.in_shards;
 }
   where
     whole : (before later : List Entry) (e : Entry) (xs ys : List Entry) (f : Entry) → es ≡ before ++ e ∷ later → before ≡ xs ++ f ∷ ys → es ≡ xs ++ f ∷ (ys ++ e ∷ later)

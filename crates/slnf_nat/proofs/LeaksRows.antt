@@ -1,5 +1,5 @@
 -- A worked list: one flow is recorded, one instance stops between its claim and its flow's record, and a sweep takes that claim away.
-use Rattle.std.proofs.Common.{◌≡◌, arith, ap, sym, subst, ◌≤◌, ◌++◌, ℕ, zero, suc, ◌==◌, Some, None, List, [], ◌∷◌, refl}
+use Rattle.std.proofs.Common.{◌≡◌, arith, ap, sym, subst, ◌≤◌, ◌++◌, ℕ, zero, suc, ◌==◌, Some, None, List, [], ◌∷◌, refl, append_assoc}
 use Rattle.slnf_base.specs.declared.addresses.Pair.{Pair}
 use Rattle.slnf_base.specs.declared.packets.Proto.TheVariants.{Tcp, Udp}
 use Rattle.slnf_base.specs.declared.packets.Packet.{Packet}
@@ -24,7 +24,7 @@ use Rattle.slnf_run.specs.Setting.{Actor, Setting, era_of, own_base}
 use Rattle.slnf_run.specs.Parts.{part_of, batch_of, offers_at, Post, posts_of}
 use Rattle.slnf_run.specs.Run.{EarlierEnded, IsDone, IsOffered, IsRun}
 use Rattle.slnf_access.specs.Order.{InOrder, IsInShard}
-use Rattle.slnf_nat.proofs.FromRun.{own_of-part, append_assoc}
+use Rattle.slnf_run.proofs.Runs.{own_in_part}
 use Rattle.std.proofs.Common.{inl, inr}
 use Rattle.slnf_nat.specs.NatBox.{NatArrival}
 use Rattle.slnf_nat.proofs.LeaksOfRun.{own_image}
@@ -34,7 +34,7 @@ use Rattle.std.proofs.lemmas.Option.{same_Some}
 use Rattle.slnf_nat.proofs.Boxing.{same_pair}
 use Rattle.slnf_nat.proofs.Flying.{same_flight}
 use Rattle.slnf_nat.proofs.Leaks.{alone_settles, one_to_one}
-use Rattle.slnf_nat.proofs.Rows.{other, none_own, Rises, rises_each}
+use Rattle.slnf_nat.proofs.Rows.{other, none_own, Rises, rises_on_keys}
 use Rattle.std.specs.List.{AllByRecursion}
 
 abbrev outer : Pair
@@ -196,7 +196,7 @@ given = record {
   ranges = ranges;
   bases = bases;
   epochs = λ before later e split. bases_each 0 before later e (subst (Bases 0) split in_epochs);
-  rising = λ before later e split. rises_each 0 before later e (subst (Rises 0) split rises);
+  rising = rises_on_keys 0 es rises;
 }
 
 tcp_ended : HasEnded (stand_of (nat_scene nat begins) 1 0 es)
@@ -353,7 +353,7 @@ run = record {
   in_shards = in_shards;
   legal = legal;
   of_actors = (omega arith, (omega arith, (omega arith, (omega arith, (omega arith, (omega arith, (omega arith, (omega arith, (omega arith, (omega arith, tt))))))))));
-  paths = λ i k. subst (IsPath (nat_machine nat) (begins i k)) (sym (own_of-part i k es)) (paths i k);
+  paths = λ i k. subst (IsPath (nat_machine nat) (begins i k)) (sym (own_in_part i k es)) (paths i k);
   done = each_post (λ i post. IsDone setting es i post) (inl refl) (inr (tt, (tt, (tt, tt))));
   by_epoch = λ before middle later e f split. epochs_two 0 before middle later e f (subst (Epochs 0) split all_epochs);
   offered = each_post (λ i post. AllByRecursion (λ e. IsOffered e.item (offers_at setting i post)) (part_of i es)) (inl refl, (inl refl, (inl refl, (inr (inl refl), (inr (inl refl), tt))))) (inl refl, (inl refl, (inr (inl refl), (inr (inl refl), (inr (inl refl), tt)))));

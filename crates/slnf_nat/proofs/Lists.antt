@@ -1,6 +1,9 @@
 -- Laws of lists with one more entry.
-use Rattle.std.proofs.Common.{◌⊎◌, inl, inr, List, [], ◌∷◌, ◌++◌}
+use Rattle.std.proofs.Common.{◌≡◌, ◌⊎◌, inl, inr, ◌<◌, List, [], ◌∷◌, ◌++◌, ap, ◌∙◌, append_assoc}
 use Rattle.slnf_access.specs.declared.requests.Entry.{Entry}
+use Rattle.slnf_access.specs.Map.{key_of}
+use Rattle.slnf_access.specs.Order.{RisesOnKeys}
+use Rattle.slnf_access.proofs.Elements.{each-splits}
 use Rattle.slnf_nat.specs.Kept.{Has}
 use Rattle.std.specs.List.{AllByRecursion}
 
@@ -35,3 +38,10 @@ Has-weaker P Q (x ∷ xs) weaker (inr h) = inr (Has-weaker P Q xs weaker h)
 pub Each-parts : (P : Entry → Type 0) (xs : List Entry) (e : Entry) → AllByRecursion P (xs ++ e ∷ []) → AllByRecursion P xs × P e
 Each-parts P [] e h = (tt, h.0)
 Each-parts P (x ∷ xs) e h = let r = Each-parts P xs e h.1 in ((h.0, r.0), r.1)
+
+-- where stamps rise on keys, the entries before one that are on its key have lower ones
+pub rising_before : (es before later : List Entry) (e : Entry) → RisesOnKeys es → es ≡ before ++ e ∷ later →
+    AllByRecursion (λ f. key_of f.request ≡ key_of e.request → f.stamp < e.stamp) before
+rising_before es before later e rises split =
+    each-splits (λ f. key_of f.request ≡ key_of e.request → f.stamp < e.stamp) before (λ xs ys f h key.
+    rises xs ys later f e (split ∙ ap (λ l. l ++ e ∷ later) h ∙ append_assoc xs (f ∷ ys) (e ∷ later)) key)

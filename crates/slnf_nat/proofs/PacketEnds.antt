@@ -23,6 +23,7 @@ use Rattle.slnf_nat.specs.Flights.{OutState, Look, Try, Confirm, Release, Last, 
 use Rattle.slnf_nat.specs.Machine.{Nat, looked, released, goes_out, claimed, entered, goes_in, swept, names, goes_sweep, nat_goes, nat_decided, nat_machine}
 use Rattle.slnf_nat.proofs.Firsts.{nat_steady}
 use Rattle.slnf_run.specs.FunctionLaws.{IsFunction}
+use Rattle.slnf_nat.specs.Behaviour.{IsPacketFlight, nat_behaviour}
 use Rattle.slnf_nat.specs.Pools.{port_count, is_outbound, is_inbound, nat_of, nat_starts, pool_port, sweep_item}
 
 -- what holds of a machine's stands at each step holds in the end
@@ -166,3 +167,10 @@ nat_function pool bases = record {
       (stands_keep (nat_machine (nat_of pool)) IsSweepStand (sweep_step (nat_of pool)) (sweep_item pool (bases i) k)
       own (item_sweeps IsSweepStand pool (bases i) k (λ proto place. tt) tt));
 }
+
+-- the function's steps are the machine's
+pub steps_agree : (pool : Pool) (flight : NatFlight) (reply : Reply) → IsPacketFlight flight →
+    stand_of_step ((nat_behaviour pool).goes flight reply) ≡ (nat_machine (nat_of pool)).goes flight reply
+steps_agree pool (Out state incarnation packet) reply h = refl
+steps_agree pool (In state packet) reply h = refl
+steps_agree pool (Sweep state proto port base) reply h = absurd h

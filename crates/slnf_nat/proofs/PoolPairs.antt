@@ -1,13 +1,13 @@
 -- The NAT of a pool: each candidate is one of its pairs and in range.
-use Rattle.std.proofs.Common.{◌≡◌, ℕ, ◌+◌, ◌-◌, ◌%◌, ◌^◌, ◌<◌, ◌≤◌, true, refl, arith, sym, nat_le, ◌==◌, ◌&&◌}
+use Rattle.std.proofs.Common.{◌≡◌, ℕ, ◌+◌, ◌-◌, ◌%◌, ◌^◌, ◌<◌, ◌≤◌, true, refl, arith, ap, sym, nat_le, ◌==◌, ◌&&◌}
 use Rattle.std.proofs.lemmas.Bool.{eq-eqb, le-leb, and_from, and_parts, eqb-true, leb-true}
 use Rattle.std.proofs.lemmas.Nat.{mod_below}
 use Rattle.slnf_base.specs.declared.addresses.Pair.{Pair}
 use Rattle.slnf_base.specs.declared.plans.Pool.{Pool}
 use Rattle.slnf_base.specs.Ranges.{IsPair}
 use Rattle.slnf_nat.specs.Given.{IsNat}
-use Rattle.slnf_nat.specs.Pools.{port_count, has_pair, nat_of, candidate}
-use Rattle.slnf_nat.proofs.Covering.{port_at, pair_made}
+use Rattle.slnf_nat.specs.Pools.{port_count, has_pair, nat_of, candidate, IsPool}
+use Rattle.slnf_nat.proofs.Covering.{port_at, pair_made, offset_once}
 
 -- a port of the pool is one of its ports
 port_within : (pool : Pool) (n : ℕ) → n < port_count pool → (pool.low ≤ pool.low + n) × (pool.low + n ≤ pool.high)
@@ -39,11 +39,25 @@ pool_covers pool inside port has =
     let r : (place : ℕ) × (place < port_count pool) × (pool.low + ((inside.addr + inside.port) % port_count pool + place) % port_count pool ≡ port.port) = port_at pool.low pool.high (inside.addr + inside.port) port.port (leb-true pool.low port.port b.0) (leb-true port.port pool.high b.1) in
     (r.0, r.1, pair_made _ _ port (sym (eqb-true port.addr pool.outside a.0)) r.2)
 
-pub pool_is_nat : (pool : Pool) → pool.outside < 2 ^ 32 → pool.high < 2 ^ 16 → IsNat (nat_of pool)
-pool_is_nat pool outside high = record {
+pub pool_is_nat : (pool : Pool) → IsPool pool → IsNat (nat_of pool)
+pool_is_nat pool fits = record {
   some = let some : 0 < pool.high - pool.low + 1 = omega arith in some;
   candidate_has = λ proto inside place. port_has pool _ (place_below pool _);
   candidate_allowed = λ proto inside place. port_has pool _ (place_below pool _);
   covers = λ proto inside port allowed. pool_covers pool inside port allowed;
-  candidate_fits = λ proto inside place. port_fits pool outside high _ (place_below pool _);
+  candidate_fits = λ proto inside place. port_fits pool fits.outside_fits fits.high_fits _ (place_below pool _);
 }
+
+-- each candidate is a pair of the pool
+pub candidate_has : (pool : Pool) (inside : Pair) (place : ℕ) → has_pair pool (candidate pool inside place) ≡ true
+candidate_has pool inside place = port_has pool _ (place_below pool _)
+
+-- two places below the number of ports have two candidates
+pub candidate_once : (pool : Pool) (inside : Pair) (a b : ℕ) → a < port_count pool → b < port_count pool →
+    candidate pool inside a ≡ candidate pool inside b → a ≡ b
+candidate_once pool inside a b less_a less_b same =
+    let n : ℕ = port_count pool in
+    let r : ℕ = (inside.addr + inside.port) % n in
+    let ports : pool.low + (r + a) % n ≡ pool.low + (r + b) % n = ap (λ (p : Pair). p.port) same in
+    let offsets : (r + a) % n ≡ (r + b) % n = omega (arith, ports) in
+    offset_once n r a b (place_below pool (inside.addr + inside.port)) less_a less_b offsets

@@ -29,7 +29,7 @@ use Rattle.slnf_nat.specs.Flights.{first_of}
 use Rattle.slnf_nat.proofs.Explained.{nat_explained}
 use Rattle.slnf_nat.proofs.Flying.{same_flight}
 use Rattle.std.proofs.lemmas.Bool.{eqb-true, and_parts, and_from, leb-true, le-leb}
-use Rattle.slnf_access.specs.Map.{key_of}
+use Rattle.slnf_access.specs.Order.{RisesOnKeys}
 use Rattle.slnf_nat.proofs.Covering.{pair_made}
 use Rattle.slnf_access.proofs.Elements.{each-splits}
 use Rattle.std.specs.List.{AllByRecursion}
@@ -163,9 +163,13 @@ rises_at : (n : ℕ) (xs ys : List Entry) (e : Entry) → Rises n (xs ++ e ∷ y
 rises_at n [] ys e h = h.0
 rises_at n (x ∷ xs) ys e h = let a : n < x.stamp = h.0 in let b : x.stamp < e.stamp = rises_at x.stamp xs ys e h.1 in omega arith
 
-pub rises_each : (n : ℕ) (xs ys : List Entry) (e : Entry) → Rises n (xs ++ e ∷ ys) → AllByRecursion (λ f. key_of f.request ≡ key_of e.request → f.stamp < e.stamp) xs
-rises_each n [] ys e h = tt
-rises_each n (x ∷ xs) ys e h = (λ key. rises_at x.stamp xs ys e h.1, rises_each x.stamp xs ys e h.1)
+rises_behind : (n : ℕ) (xs ys : List Entry) (e : Entry) → Rises n (xs ++ e ∷ ys) → Rises e.stamp ys
+rises_behind n [] ys e h = h.1
+rises_behind n (x ∷ xs) ys e h = rises_behind x.stamp xs ys e h.1
+
+pub rises_on_keys : (n : ℕ) (es : List Entry) → Rises n es → RisesOnKeys es
+rises_on_keys n es h before middle later e f split key =
+    rises_at e.stamp middle later f (rises_behind n before (middle ++ f ∷ later) e (subst (Rises n) split h))
 
 rises : Rises 0 es
 rises = (omega arith, (omega arith, (omega arith, (omega arith, (omega arith, tt)))))
@@ -178,7 +182,7 @@ given = record {
   ranges = ranges;
   bases = λ i. omega arith;
   epochs = λ before later e split. each-splits (λ f. 0 ≤ 0) before (λ xs ys f h. omega arith);
-  rising = λ before later e split. rises_each 0 before later e (subst (Rises 0) split rises);
+  rising = rises_on_keys 0 es rises;
 }
 
 explained : IsExplained (nat_scene nat begins) (nat_box nat) IsSameFlows es

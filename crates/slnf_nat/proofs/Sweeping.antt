@@ -34,7 +34,7 @@ use Rattle.slnf_nat.proofs.Boxing.{same_pair}
 use Rattle.slnf_nat.proofs.Flying.{own_parts, same_flight}
 use Rattle.slnf_nat.proofs.Nexts.{IsNextOf, next_of, next_stands, others_stand, flow_stays}
 use Rattle.slnf_nat.proofs.Explained.{flow_there}
-use Rattle.slnf_nat.proofs.Theorems.{kept_before}
+use Rattle.slnf_nat.proofs.LiveFlows.{kept_before}
 use Rattle.std.specs.List.{AllByRecursion}
 
 -- a claim at the port that isn't the one with this version isn't of an incarnation below the base

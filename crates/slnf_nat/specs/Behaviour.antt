@@ -23,3 +23,9 @@ nat_behaviour pool = record {
   goes = nat_steps (nat_of pool);
   decided = nat_decided;
 }
+
+-- the flight is a packet's
+abbrev pub IsPacketFlight : NatFlight → Type 0
+IsPacketFlight (Out state incarnation packet) = Unit {0}
+IsPacketFlight (In state packet) = Unit {0}
+IsPacketFlight (Sweep state proto port base) = ⊥

@@ -3,7 +3,8 @@ use Rattle.std.specs.Prelude.{◌≡◌, ℕ, ◌<◌, ◌≤◌, ◌^◌, true,
 use Rattle.slnf_base.specs.declared.addresses.Pair.{Pair}
 use Rattle.slnf_base.specs.declared.packets.Proto.{Proto}
 use Rattle.slnf_access.specs.declared.requests.Entry.{Entry}
-use Rattle.slnf_access.specs.Map.{key_of, IsLegal}
+use Rattle.slnf_access.specs.Map.{IsLegal}
+use Rattle.slnf_access.specs.Order.{RisesOnKeys}
 use Rattle.slnf_access.specs.Machines.{Stand, Flies, IsPath}
 use Rattle.slnf_base.specs.Ranges.{IsPair}
 use Rattle.slnf_run.specs.Scene.{own_of}
@@ -37,4 +38,4 @@ pub record IsNatList (nat : Nat) (base_at : ℕ → ℕ) (begins : ℕ → ℕ �
   pub bases : (i : ℕ) → base_at i ≤ i
   pub epochs : (before later : List Entry) (e : Entry) → es ≡ before ++ e ∷ later → AllByRecursion (λ f. base_at f.incarnation ≤ base_at e.incarnation) before
   -- on one key stamps rise
-  pub rising : (before later : List Entry) (e : Entry) → es ≡ before ++ e ∷ later → AllByRecursion (λ f. key_of f.request ≡ key_of e.request → f.stamp < e.stamp) before
+  pub rising : RisesOnKeys es

@@ -1,5 +1,5 @@
 -- The NAT of a pool: its directions, its candidates, and how its packets and its sweeps' items begin.
-use Rattle.std.specs.Prelude.{ℕ, ◌+◌, ◌-◌, ◌*◌, ◌%◌, Bool, not, ◌&&◌, ◌==◌, nat_lt, nat_le, if◌then◌else◌, None}
+use Rattle.std.specs.Prelude.{ℕ, ◌+◌, ◌-◌, ◌*◌, ◌%◌, ◌^◌, ◌<◌, Bool, not, ◌&&◌, ◌==◌, nat_lt, nat_le, if◌then◌else◌, None}
 use Rattle.slnf_base.specs.declared.addresses.Pair.{Pair}
 use Rattle.slnf_base.specs.declared.packets.Proto.TheVariants.{Tcp, Udp}
 use Rattle.slnf_base.specs.declared.packets.Packet.{Packet}
@@ -21,6 +21,11 @@ is_outbound pool packet =
 -- the packet comes in: to the outside address, and not from the inside
 abbrev pub is_inbound : Pool → Packet → Bool
 is_inbound pool packet = (packet.dest.addr == pool.outside) && not (is_inside pool.inside packet.source.addr)
+
+-- an address has 32 bits and a port 16
+pub record IsPool (pool : Pool) : Type 0 where
+  pub outside_fits : pool.outside < 2 ^ 32
+  pub high_fits : pool.high < 2 ^ 16
 
 -- how many pairs the pool has: one of each port
 abbrev pub port_count : Pool → ℕ
