@@ -42,7 +42,7 @@ stamps_rise shards xs ys zs e f h in_shards key =
     let p : Precedes e f = in_order-two xs ys zs e f h in
     let one : IsInShard shards e = each-at (IsInShard shards) xs (ys ++ f ∷ zs) e in_shards in
     let rest : AllByRecursion (IsInShard shards) (e ∷ (ys ++ f ∷ zs)) =
-      each-back (IsInShard shards) xs (e ∷ (ys ++ f ∷ zs)) in_shards in
+    each-back (IsInShard shards) xs (e ∷ (ys ++ f ∷ zs)) in_shards in
     let two : IsInShard shards f = each-at (IsInShard shards) ys zs f rest.1 in
     let same : e.shard ≡ f.shard = one.shard ∙ ap (λ k. k % shards) key ∙ sym two.shard in
     grind arith
@@ -57,7 +57,7 @@ rises_in_order shards es in_order in_shards before middle later e f split key =
 pub rises-front : (xs ys : List Entry) → RisesOnKeys (xs ++ ys) → RisesOnKeys xs
 rises-front xs ys h before middle later e f split key =
     let whole : xs ++ ys ≡ before ++ e ∷ (middle ++ f ∷ (later ++ ys)) =
-      ap (λ zs. zs ++ ys) split
-      ∙ append_assoc before (e ∷ (middle ++ f ∷ later)) ys
-      ∙ ap (λ zs. before ++ e ∷ zs) (append_assoc middle (f ∷ later) ys) in
+    ap (λ zs. zs ++ ys) split
+    ∙ append_assoc before (e ∷ (middle ++ f ∷ later)) ys
+    ∙ ap (λ zs. before ++ e ∷ zs) (append_assoc middle (f ∷ later) ys) in
     h before middle (later ++ ys) e f whole key

@@ -122,9 +122,9 @@ found_stays xs ys f value version held rises legal reply cells same =
     let k : ℕ = key_of f.request in
     let replied : f.reply ≡ reply_to f.request f.stamp (cell_of k None xs) = (legal-back empty xs (f ∷ ys) legal).0 in
     let there : IsThere (cell_of k None xs) value version =
-      found_there f.request f.stamp (cell_of k None xs) value version (sym replied ∙ reply) in
+    found_there f.request f.stamp (cell_of k None xs) value version (sym replied ∙ reply) in
     let now : cell_of k (Some there.0) (f ∷ ys) ≡ Some held =
-      ap (λ c. cell_of k c (f ∷ ys)) (sym there.1) ∙ sym (cell_of-append k None xs (f ∷ ys)) ∙ cells in
+    ap (λ c. cell_of k c (f ∷ ys)) (sym there.1) ∙ sym (cell_of-append k None xs (f ∷ ys)) ∙ cells in
     go k there.0 there.2 there.3 (kept_or_stamped k None xs there.0 there.1) (kept_or_stamped k (Some there.0) (f ∷ ys) held now)
   where
     go : (k : ℕ) (there : Held) → there.value ≡ value → there.version ≡ version →
@@ -134,11 +134,11 @@ found_stays xs ys f value version held rises legal reply cells same =
     go k there v w (inr a) (inl kept) = ap (λ (c : Held). c.value) (sym (same_Some there held kept)) ∙ v
     go k there v w (inr a) (inr b) =
         let whole : xs ++ f ∷ ys ≡ a.before ++ a.e ∷ ((a.later ++ b.before) ++ b.e ∷ b.later) =
-          ap₂ (λ us vs. us ++ vs) a.split b.split
-          ∙ append_assoc a.before (a.e ∷ a.later) (b.before ++ b.e ∷ b.later)
-          ∙ ap (λ zs. a.before ++ a.e ∷ zs) (sym (append_assoc a.later b.before (b.e ∷ b.later))) in
+        ap₂ (λ us vs. us ++ vs) a.split b.split
+        ∙ append_assoc a.before (a.e ∷ a.later) (b.before ++ b.e ∷ b.later)
+        ∙ ap (λ zs. a.before ++ a.e ∷ zs) (sym (append_assoc a.later b.before (b.e ∷ b.later))) in
         let rise : a.e.stamp < b.e.stamp =
-          rises a.before (a.later ++ b.before) b.later a.e b.e whole (a.on_key ∙ sym b.on_key) in
+        rises a.before (a.later ++ b.before) b.later a.e b.e whole (a.on_key ∙ sym b.on_key) in
         let one : a.e.stamp ≡ there.version = a.stamped in
         let two : b.e.stamp ≡ held.version = b.stamped in
         absurd (omega arith)

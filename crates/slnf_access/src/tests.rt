@@ -3,7 +3,9 @@ use std::test::Fail;
 
 /// A client's pin, and two backends.
 const PIN: Key = Key(0x0411_0000_0000_0000_0000_c000_0201_0fa1);
+
 const FIRST: Value = Value(0x0a01_0001_0035);
+
 const SECOND: Value = Value(0x0a01_0002_0035);
 
 /// A read, a put, a replace and a delete, each where it acts and where it doesn't.

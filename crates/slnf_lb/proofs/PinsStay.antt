@@ -50,13 +50,13 @@ pins_stay service begins es legal paths = record {
   stays = λ proto client backend t u le h.
       let k : ℕ = pin_key_number (record { proto = proto; client = client }) in
       let there : (held : Held) × (map_after empty (take t es) k ≡ Some held) =
-        held_by (map_after empty (take t es) k) backend h in
+      held_by (map_after empty (take t es) k) backend h in
       let later : List Entry = drop t (take u es) in
       let whole : take u es ≡ take t es ++ later = take_further t u es le in
       let front : AllByRecursion Leaves (take u es) =
-        each-front Leaves (take u es) (drop u es) (subst (AllByRecursion Leaves) (sym (take-append-drop u es)) leaves) in
+      each-front Leaves (take u es) (drop u es) (subst (AllByRecursion Leaves) (sym (take-append-drop u es)) leaves) in
       let back : AllByRecursion Leaves later =
-        each-back Leaves (take t es) later (subst (AllByRecursion Leaves) whole front) in
+      each-back Leaves (take t es) later (subst (AllByRecursion Leaves) whole front) in
       ap backend_in (ap (λ xs. cell_of k None xs) whole ∙ stays_whole k there.0 (take t es) later back there.1)
       ∙ ap backend_in (sym there.1)
       ∙ h;

@@ -27,11 +27,11 @@ pub stand_of-append : {F A : Type 0} (s : Setting F A) (incarnation item : ℕ) 
     (of_item item (part_of incarnation ys))
 stand_of-append s incarnation item xs ys =
     ap (stand_after (s.scene.machine incarnation) (s.scene.begins incarnation item))
-        (filter-append (is_of incarnation item) xs ys)
+    (filter-append (is_of incarnation item) xs ys)
     ∙ (stand_after-append (s.scene.machine incarnation) (s.scene.begins incarnation item) (own_of incarnation item xs)
-        (own_of incarnation item ys)
+    (own_of incarnation item ys)
     ∙ ap (stand_after (s.scene.machine incarnation) (stand_of s.scene incarnation item xs))
-        (own_of_part incarnation item ys))
+    (own_of_part incarnation item ys))
 
 -- the entries of an item's own in a list of one
 pub own_of_one : (incarnation item : ℕ) (e : Entry) → e.incarnation ≡ incarnation → e.item ≡ item →
@@ -45,7 +45,7 @@ pub stand_of-own : {F A : Type 0} (s : Setting F A) (incarnation item : ℕ) (es
 stand_of-own s incarnation item es e h k =
     stand_of-append s incarnation item es (e ∷ [])
     ∙ ap (stand_after (s.scene.machine incarnation) (stand_of s.scene incarnation item es))
-        (own_of_one incarnation item e h k)
+    (own_of_one incarnation item e h k)
 
 -- an entry of another incarnation leaves an item where it stood
 pub stand_of-other : {F A : Type 0} (s : Setting F A) (incarnation item : ℕ) (es : List Entry) (e : Entry) →
@@ -54,7 +54,7 @@ pub stand_of-other : {F A : Type 0} (s : Setting F A) (incarnation item : ℕ) (
 stand_of-other s incarnation item es e h =
     stand_of-append s incarnation item es (e ∷ [])
     ∙ ap (λ l. stand_after (s.scene.machine incarnation) (stand_of s.scene incarnation item es) (of_item item l))
-        (part_of-other incarnation e [] h)
+    (part_of-other incarnation e [] h)
 
 -- and so does an entry of another item
 pub stand_of-other_item : {F A : Type 0} (s : Setting F A) (incarnation item : ℕ) (es : List Entry) (e : Entry) →
@@ -63,7 +63,7 @@ pub stand_of-other_item : {F A : Type 0} (s : Setting F A) (incarnation item : �
 stand_of-other_item s incarnation item es e h k =
     stand_of-append s incarnation item es (e ∷ [])
     ∙ ap (stand_after (s.scene.machine incarnation) (stand_of s.scene incarnation item es))
-        (ap (of_item item) (part_of-own incarnation e [] h) ∙ of_item-other item e [] k)
+    (ap (of_item item) (part_of-own incarnation e [] h) ∙ of_item-other item e [] k)
 
 -- where no entry is of an incarnation from this one on, each is of one before
 pub each_before : (from : ℕ) (es : List Entry) → ((i : ℕ) → from ≤ i → part_of i es ≡ []) →

@@ -26,8 +26,8 @@ pub kept_by_cell : {F A C : Type 0} (box : Box A C) (Same : C → Cells → Type
     (newly (m.decided flight) (decided_at m (m.goes flight e.reply)))
 kept_by_cell box Same m cells e flight content arrival asked replied each =
     let here : e.reply ≡ reply_to (m.asks flight) e.stamp (cells (key_of (m.asks flight))) = replied
-        ∙ ap (λ r. reply_to r e.stamp (cells (key_of r))) asked in
+    ∙ ap (λ r. reply_to r e.stamp (cells (key_of r))) asked in
     let At : Request → Reply → Type 0 = λ request reply.
-        IsKept box (λ now. Same now (accessed cells request e.stamp)) content arrival
-        (newly (m.decided flight) (decided_at m (m.goes flight reply))) in
+    IsKept box (λ now. Same now (accessed cells request e.stamp)) content arrival
+    (newly (m.decided flight) (decided_at m (m.goes flight reply))) in
     subst₂ At (sym asked) (sym here) (each (cells (key_of (m.asks flight))) refl)

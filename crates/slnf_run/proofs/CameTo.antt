@@ -39,9 +39,9 @@ decision_of_entry : {F A : Type 0} (s : Scene F A) (es before later : List Entry
     ≡ decision_of (s.begins e.incarnation e.item) (decided_by s before e)
 decision_of_entry s es before later e split =
     ap (option_and_then (λ f. decision_of (s.begins f.incarnation f.item) (decided_by s (take (length before) es) f)))
-        (ap (λ xs. slice_get xs (length before)) split ∙ slice_get-split before later e)
+    (ap (λ xs. slice_get xs (length before)) split ∙ slice_get-split before later e)
     ∙ ap (λ xs. decision_of (s.begins e.incarnation e.item) (decided_by s xs e)) (ap (take (length before)) split
-        ∙ take-append_seam before (e ∷ later))
+    ∙ take-append_seam before (e ∷ later))
 
 -- A verdict that an item comes to, and that wasn't decided at first, was decided at an entry of its own.
 module _ {F A : Type 0} (s : Setting F A) (es : List Entry) (first : F) (steady : (i : ℕ) →
@@ -64,9 +64,9 @@ module _ {F A : Type 0} (s : Setting F A) (es : List Entry) (first : F) (steady 
           let m : Machine F = s.scene.machine e.incarnation in
           let st : Stand F = stand_of s.scene e.incarnation e.item before in
           let stepped : decided_at m (stand_step m st e) ≡ Some u =
-              ap (decided_at m) (sym (stand_of-own s.scene before e)) ∙ w in
+          ap (decided_at m) (sym (stand_of-own s.scene before e)) ∙ w in
           let newly_so : decided_by s.scene before e ≡ Some u =
-              ap (λ o. newly o (decided_at m (stand_step m st e))) none ∙ stepped in
+          ap (λ o. newly o (decided_at m (stand_step m st e))) none ∙ stepped in
           inr (
             u,
             length before,
@@ -82,9 +82,14 @@ module _ {F A : Type 0} (s : Setting F A) (es : List Entry) (first : F) (steady 
             },
           )
   far_own before later e split begins (inr r) =
-      inr (r.0, r.1, ap (decided_at (s.scene.machine e.incarnation)) (stand_of-own s.scene before e)
-          ∙ steady_step (s.scene.machine e.incarnation) (steady e.incarnation)
-          (stand_of s.scene e.incarnation e.item before) e r.0 r.2, r.3)
+      inr (
+        r.0,
+        r.1,
+        ap (decided_at (s.scene.machine e.incarnation)) (stand_of-own s.scene before e)
+            ∙ steady_step (s.scene.machine e.incarnation) (steady e.incarnation)
+            (stand_of s.scene e.incarnation e.item before) e r.0 r.2,
+        r.3,
+      )
 
   far_same : (i k : ℕ) (xs ys : List Entry) → stand_of s.scene i k ys ≡ stand_of s.scene i k xs → Far i k xs →
       Far i k ys
@@ -98,12 +103,12 @@ module _ {F A : Type 0} (s : Setting F A) (es : List Entry) (first : F) (steady 
       go : (b : Bool) → is_of i k e ≡ b → Far i k (before ++ e ∷ [])
       go true w =
           let parts : ((e.incarnation == i) ≡ true) × ((e.item == k) ≡ true) =
-              and_parts (e.incarnation == i) (e.item == k) w in
+          and_parts (e.incarnation == i) (e.item == k) w in
           subst₂ (λ a b. s.scene.begins a b ≡ Flies first → Far a b before → Far a b (before ++ e ∷ []))
-              (eqb-true e.incarnation i parts.0) (eqb-true e.item k parts.1) (far_own before later e split) begins far
+          (eqb-true e.incarnation i parts.0) (eqb-true e.item k parts.1) (far_own before later e split) begins far
       go false w =
           let same : own_of i k (before ++ e ∷ []) ≡ own_of i k before = filter-append (is_of i k) before (e ∷ [])
-              ∙ ap (λ b. own_of i k before ++ cond b (e ∷ []) []) w ∙ append-nil (own_of i k before) in
+          ∙ ap (λ b. own_of i k before ++ cond b (e ∷ []) []) w ∙ append-nil (own_of i k before) in
           far_same i k before (before ++ e ∷ []) (ap (stand_after (s.scene.machine i) (s.scene.begins i k)) same) far
 
   far_last : (i k : ℕ) (v : Verdict) → decided_at (s.scene.machine i) (stand_of s.scene i k es) ≡ Some v →
@@ -118,15 +123,16 @@ module _ {F A : Type 0} (s : Setting F A) (es : List Entry) (first : F) (steady 
       × IsDecided s es i k d (record { first = first; verdict = v })
   was_decided_by i k v begins unmade now =
       far_last i k v now (prefix_induction (λ xs. Far i k xs) es
-          (inl (ap (decided_at (s.scene.machine i)) begins ∙ unmade)) (far_step i k begins))
+      (inl (ap (decided_at (s.scene.machine i)) begins ∙ unmade)) (far_step i k begins))
 
 -- each reply of a legal list is one that a store can give
 can_reply : (cells : Cells) (es : List Entry) → IsLegalFrom cells es →
     AllByRecursion (λ e. CanReply e.request e.reply) es
 can_reply cells [] h = tt
-can_reply cells (e ∷ es) h =
-    (subst (CanReply e.request) (sym h.0) (can_reply_to e.request e.stamp (cells (key_of e.request))),
-        can_reply (map_after cells (e ∷ [])) es h.1)
+can_reply cells (e ∷ es) h = (
+  subst (CanReply e.request) (sym h.0) (can_reply_to e.request e.stamp (cells (key_of e.request))),
+  can_reply (map_after cells (e ∷ [])) es h.1,
+)
 
 -- the entries that count are a front
 counted_front : (stopped : Bool) (part : List Entry) → (rest : List Entry) × (part ≡ counted stopped part ++ rest)
@@ -141,8 +147,8 @@ counted_ended m st k false part v h = h
 counted_ended m st k true part v h =
     let n : ℕ = length part - 1 in
     let whole : of_item k part ≡ of_item k (take n part) ++ of_item k (drop n part) =
-        ap (of_item k) (sym (take-append-drop n part))
-        ∙ filter-append (λ e. e.item == k) (take n part) (drop n part) in
+    ap (of_item k) (sym (take-append-drop n part))
+    ∙ filter-append (λ e. e.item == k) (take n part) (drop n part) in
     ap (stand_after m st) whole
     ∙ stand_after-append m st (of_item k (take n part)) (of_item k (drop n part))
     ∙ ap (λ now. stand_after m now (of_item k (drop n part))) h
@@ -184,7 +190,7 @@ module _ {F A : Type 0} (s : Setting F A) (j : List Entry) (sound : IsSound s) (
       can = can_front e.incarnation e.item (own_of e.incarnation e.item (take d j ++ e ∷ []))
           (own_of e.incarnation e.item (drop (suc d) j))
           (ap (own_of e.incarnation e.item) front ∙ filter-append (is_of e.incarnation e.item) (take d j ++ e ∷ [])
-              (drop (suc d) j))
+          (drop (suc d) j))
 
       now : decided_at (s.scene.machine e.incarnation) (stand_of s.scene e.incarnation e.item (take d j ++ e ∷ []))
           ≡ Some decision.verdict
@@ -193,8 +199,8 @@ module _ {F A : Type 0} (s : Setting F A) (j : List Entry) (sound : IsSound s) (
           let same : r.0 ≡ e = same_Some r.0 e (sym r.1.at ∙ at) in
           ap (decided_at (s.scene.machine e.incarnation)) (stand_of-own s.scene (take d j) e)
           ∙ subst (λ f. decided_at (s.scene.machine f.incarnation)
-              (stand_step (s.scene.machine f.incarnation) (stand_of s.scene f.incarnation f.item (take d j)) f)
-              ≡ Some decision.verdict) same r.1.after
+          (stand_step (s.scene.machine f.incarnation) (stand_of s.scene f.incarnation f.item (take d j)) f)
+          ≡ Some decision.verdict) same r.1.after
 
       go : (o : Option ℕ) → p.0.actor.lane ≡ o → (lane : ℕ) × IsOn s j lane e.incarnation
       go None none = let no : decided_at (s.scene.machine e.incarnation)
@@ -202,8 +208,15 @@ module _ {F A : Type 0} (s : Setting F A) (j : List Entry) (sound : IsSound s) (
           sound.sweeps e.incarnation e.item p.0.actor
           (own_of e.incarnation e.item (take d j ++ e ∷ [])) actor none can in
           let clash : ◌≡◌ {A = Option Verdict} None (Some decision.verdict) = sym no ∙ now in absurd (cc)
-      go (Some lane) on = (lane, (p.0, p.1.at, ap (λ o. elim o [ None ↦ false | Some own ↦ own == lane ]) on
-          ∙ eq-eqb lane lane refl))
+      go (Some lane) on = (
+        lane,
+        (
+          p.0,
+          p.1.at,
+          ap (λ o. elim o [ None ↦ false | Some own ↦ own == lane ]) on
+              ∙ eq-eqb lane lane refl,
+        ),
+      )
 
   -- it began with it, it is lost with its instance, or it was decided
   pub given_by : (lane i k : ℕ) (post : Post) → slice_get (posts_of s j) i ≡ Some post → is_on lane post.actor
@@ -221,9 +234,9 @@ module _ {F A : Type 0} (s : Setting F A) (j : List Entry) (sound : IsSound s) (
       can : CanMake (s.scene.machine i) (s.scene.begins i k) (of_item k part)
       can =
           let r : (rest : List Entry) × (part_of i j ≡ part ++ rest) =
-              counted_front (is_stopped post.actor (part_of i j)) (part_of i j) in
+          counted_front (is_stopped post.actor (part_of i j)) (part_of i j) in
           let whole : of_item k (part_of i j) ≡ of_item k part ++ of_item k r.0 = ap (of_item k) r.1
-              ∙ filter-append (λ e. e.item == k) part r.0 in
+          ∙ filter-append (λ e. e.item == k) part r.0 in
           can_front i k (of_item k part) (of_item k r.0) (sym (own_in_part i k j) ∙ whole)
 
       well : EndsWell (stand_after (s.scene.machine i) (s.scene.begins i k) (of_item k part))
@@ -237,17 +250,23 @@ module _ {F A : Type 0} (s : Setting F A) (j : List Entry) (sound : IsSound s) (
       go st b (Ends None) w = absurd (subst EndsWell w well)
       go (Ends u) b (Ends (Some v)) w =
           let same : Ends u ≡ Ends (Some v) = sym (stand_after-ended (s.scene.machine i) u (of_item k part))
-              ∙ ap (λ st. stand_after (s.scene.machine i) st (of_item k part)) (sym b) ∙ w in
+          ∙ ap (λ st. stand_after (s.scene.machine i) st (of_item k part)) (sym b) ∙ w in
           let r : (reason : Reason) × (v ≡ Dropped reason) =
-              sound.begins_dropped i lane k post.actor v actor on (taken_inside s j lane i k post on took) (b
-              ∙ same) in
+          sound.begins_dropped i lane k post.actor v actor on (taken_inside s j lane i k post on took) (b
+          ∙ same) in
           inl (r.0, b ∙ same ∙ ap (λ v. Ends (Some v)) r.1, r.1)
       go (Flies first) b (Ends (Some v)) w =
           let whole : stand_of s.scene i k j ≡ Ends (Some v) =
-              ap (stand_after (s.scene.machine i) (s.scene.begins i k)) (sym (own_in_part i k j))
-              ∙ counted_ended (s.scene.machine i) (s.scene.begins i k) k (is_stopped post.actor (part_of i j))
-              (part_of i j) (Some v) w in
+          ap (stand_after (s.scene.machine i) (s.scene.begins i k)) (sym (own_in_part i k j))
+          ∙ counted_ended (s.scene.machine i) (s.scene.begins i k) k (is_stopped post.actor (part_of i j))
+          (part_of i j) (Some v) w in
           let r = was_decided_by s j first sound.steady i k v b (sound.undecided i k first b)
-              (ap (decided_at (s.scene.machine i)) whole) in
-          inr (inr (r.0, record { first = first; verdict = v }, r.1, refl, subst EndsWell w well,
-              record { post = post; posted = posted; comes = w }))
+          (ap (decided_at (s.scene.machine i)) whole) in
+          inr (inr (
+            r.0,
+            record { first = first; verdict = v },
+            r.1,
+            refl,
+            subst EndsWell w well,
+            record { post = post; posted = posted; comes = w },
+          ))

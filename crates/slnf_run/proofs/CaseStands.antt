@@ -24,8 +24,13 @@ own_of_mapped : {F G : Type 0} (into : F → G) (o : Option (Decision F)) (x : D
 own_of_mapped into None x h = absurd (cc)
 own_of_mapped {G = G} into (Some own) x h =
     let same : decision_as into own ≡ x = same_Some (decision_as into own) x h in
-    record { own = own; there = refl; first = ap (λ (y : Decision G). y.first) same; verdict =
-        ap (λ (y : Decision G). y.verdict) same }
+    record {
+      own = own;
+      there = refl;
+      first = ap (λ (y : Decision G). y.first) same;
+      verdict =
+          ap (λ (y : Decision G). y.verdict) same;
+    }
 
 module _ {F G A B : Type 0} (c : Case F G A B) (s : Scene F A) where
   pub case_stand : (i k : ℕ) (es : List Entry) → stand_of (case_scene c s) i k es
@@ -37,7 +42,7 @@ module _ {F G A B : Type 0} (c : Case F G A B) (s : Scene F A) where
   flies_own : (st : Stand F) (flight : F) → stand_as c.into st ≡ Flies (c.into flight) → st ≡ Flies flight
   flies_own (Flies own) flight h =
       ap (λ f. Flies f) (same_Some own flight (sym (c.own_into own)
-          ∙ ap c.own (same_flight (c.into own) (c.into flight) h) ∙ c.own_into flight))
+      ∙ ap c.own (same_flight (c.into own) (c.into flight) h) ∙ c.own_into flight))
   flies_own (Ends end) flight h = absurd (cc)
 
   pub case_flies : (i k : ℕ) (es : List Entry) (flight : F) → stand_of (case_scene c s) i k es

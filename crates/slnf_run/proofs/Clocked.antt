@@ -21,10 +21,10 @@ pub clocked : (epoch : ℕ → ℕ) (shards : ℕ) (j : List Entry) → Grown (I
 clocked epoch shards j made =
     grown_of_splits (HasClockStamp epoch) [] j (λ before later e split.
     let own : Grown (IsMade epoch shards) [] (before ++ e ∷ later) =
-        subst (Grown (IsMade epoch shards) []) split made in
+    subst (Grown (IsMade epoch shards) []) split made in
     (grown_at (IsMade epoch shards) [] before later e own).stamp
     ∙ ap (λ n. n + 1) (stamp_by_clock epoch shards before e.incarnation e.shard
-        (laid_of_made epoch shards [] before (front (IsMade epoch shards) [] before (e ∷ later) own))))
+    (laid_of_made epoch shards [] before (front (IsMade epoch shards) [] before (e ∷ later) own))))
 
 pub scheduled_clocked : {F A : Type 0} (s : Setting F A) (j : List Entry) → IsScheduled s (usual_way s.eras) j →
     HasClockStamps s j

@@ -121,7 +121,7 @@ pub up_of_rises : (epoch : ℕ → ℕ) (es : List Entry) → Pairs (λ e f. epo
     Pairs (λ e f. epoch e.incarnation < epoch f.incarnation → e.stamp < f.stamp) es → Pairs (IsUp epoch) es
 up_of_rises epoch es rise above =
     pairs-both (λ e f. epoch e.incarnation ≤ epoch f.incarnation) (λ e f. epoch e.incarnation < epoch f.incarnation →
-        e.stamp < f.stamp) (IsUp epoch)
+    e.stamp < f.stamp) (IsUp epoch)
     (λ e f l u. (u, λ m. absurd (clash e f l m))) es rise above
   where
     clash : (e f : Entry) → epoch e.incarnation ≤ epoch f.incarnation → epoch f.incarnation < epoch e.incarnation → ⊥
@@ -140,26 +140,26 @@ earlier_below_own epoch incarnation (f ∷ es) h e rest w =
             λ t. le_refl f.stamp,
             each-weaker (IsUp epoch f) (λ g. IsTrue (is_of_earlier epoch incarnation g) → g.stamp ≤ f.stamp)
                 (λ g u t. let l : g.stamp < f.stamp = u.1
-                    (subst (λ n. epoch g.incarnation < epoch n) (sym own)
-                    (ltb-true (epoch g.incarnation) (epoch incarnation) t)) in omega arith) es h.0,
+                (subst (λ n. epoch g.incarnation < epoch n) (sym own)
+                (ltb-true (epoch g.incarnation) (epoch incarnation) t)) in omega arith) es h.0,
           ))
           ((each_below_greatest (λ g. g.incarnation == incarnation) (f ∷ es)).0
-              (eq-eqb f.incarnation incarnation own))
+          (eq-eqb f.incarnation incarnation own))
       | inr n ↦
           let some : part_of incarnation es ≡ e ∷ rest = sym (part_of-other incarnation f es n) ∙ w in
           let same : greatest (λ g. g.incarnation == incarnation) (f ∷ es)
-              ≡ greatest (λ g. g.incarnation == incarnation) es =
+          ≡ greatest (λ g. g.incarnation == incarnation) es =
           cond-false (f.incarnation == incarnation) (max f.stamp (greatest (λ g. g.incarnation == incarnation) es))
-              (greatest (λ g. g.incarnation == incarnation) es) (ne_eqb f.incarnation incarnation n) in
+          (greatest (λ g. g.incarnation == incarnation) es) (ne_eqb f.incarnation incarnation n) in
           subst (λ n. greatest (is_of_earlier epoch incarnation) (f ∷ es) ≤ n) (sym same)
           (cond_both (is_of_earlier epoch incarnation f) (max f.stamp (greatest (is_of_earlier epoch incarnation) es))
-              (greatest (is_of_earlier epoch incarnation) es)
+          (greatest (is_of_earlier epoch incarnation) es)
           (λ n. n ≤ greatest (λ g. g.incarnation == incarnation) es)
           (λ t. max-le (within_greatest (λ g. g.incarnation == incarnation) f.stamp e rest es some
           (each-weaker (IsUp epoch f) (λ g. IsTrue (g.incarnation == incarnation) → f.stamp ≤ g.stamp)
           (λ g u i. le_of_lt (u.0 (subst (λ n. epoch f.incarnation < epoch n)
-              (sym (eqb-true g.incarnation incarnation i)) (ltb-true (epoch f.incarnation) (epoch incarnation) t))))
-              es h.0))
+          (sym (eqb-true g.incarnation incarnation i)) (ltb-true (epoch f.incarnation) (epoch incarnation) t))))
+          es h.0))
           (earlier_below_own epoch incarnation es h.1 e rest some))
           (λ _. earlier_below_own epoch incarnation es h.1 e rest some))
     ]
@@ -182,10 +182,10 @@ clock_is_greatest epoch incarnation es up rise = go (part_of incarnation es) ref
         rw none (omega arith)
     go (e ∷ part) w =
         let low : greatest (is_of_earlier epoch incarnation) es ≤ greatest (λ f. f.incarnation == incarnation) es =
-            earlier_below_own epoch incarnation es up e part w in
+        earlier_below_own epoch incarnation es up e part w in
         let all : max (greatest (λ f. f.incarnation == incarnation) es)
-            (greatest (is_of_earlier epoch incarnation) es) ≡ greatest (λ f. f.incarnation == incarnation) es =
-            omega arith in
+        (greatest (is_of_earlier epoch incarnation) es) ≡ greatest (λ f. f.incarnation == incarnation) es =
+        omega arith in
         all ∙ (last ∙ ap last_stamp w)
 
 -- the stamp of an access is one more than the greater of its shard's last stamp and its actor's clock
@@ -196,14 +196,14 @@ stamp_by_clock epoch shards es incarnation shard h =
     let above : Pairs (IsAbove epoch) es = stamps_above epoch shards es h in
     greatest-or (λ e. e.shard == shard || e.incarnation == incarnation) (is_of_earlier epoch incarnation) es
     ∙ (ap (λ n. max n (greatest (is_of_earlier epoch incarnation) es))
-        (greatest-or (λ e. e.shard == shard) (λ e. e.incarnation == incarnation) es)
+    (greatest-or (λ e. e.shard == shard) (λ e. e.incarnation == incarnation) es)
     ∙ (max-swap (greatest (λ e. e.shard == shard) es) (greatest (λ e. e.incarnation == incarnation) es)
-        (greatest (is_of_earlier epoch incarnation) es)
+    (greatest (is_of_earlier epoch incarnation) es)
     ∙ ap₂ max
     (greatest_is_last (λ e. e.shard == shard) es
-        (rises_of_number (λ e. e.shard) shard es (shard_stamps_rise epoch es above)))
+    (rises_of_number (λ e. e.shard) shard es (shard_stamps_rise epoch es above)))
     (clock_is_greatest epoch incarnation es (up_of_rises epoch es (epochs_rise epoch shards es h)
-        (epoch_stamps_rise epoch es above)) (incarnation_stamps_rise epoch es above))))
+    (epoch_stamps_rise epoch es above)) (incarnation_stamps_rise epoch es above))))
   where
     max-swap : (a b c : ℕ) → max (max a b) c ≡ max a (max b c)
     max-swap a b c = omega arith
@@ -217,9 +217,9 @@ earlier_at_start epoch incarnation es tail h k =
     greatest-append (is_of_earlier epoch incarnation) es tail
     ∙ (ap₂ max
     (greatest-same (is_of_earlier epoch incarnation) (λ _. true) es
-        (each-weaker (λ e. epoch e.incarnation < epoch incarnation) (λ e. is_of_earlier epoch incarnation e ≡ true)
-        (λ e l. lt-ltb (epoch e.incarnation) (epoch incarnation) l) es h))
+    (each-weaker (λ e. epoch e.incarnation < epoch incarnation) (λ e. is_of_earlier epoch incarnation e ≡ true)
+    (λ e l. lt-ltb (epoch e.incarnation) (epoch incarnation) l) es h))
     (greatest-none (is_of_earlier epoch incarnation) tail
-        (each-weaker (λ e. epoch incarnation ≤ epoch e.incarnation) (λ e. is_of_earlier epoch incarnation e ≡ false)
-        (λ e l. le-ltb (epoch e.incarnation) (epoch incarnation) l) tail k))
+    (each-weaker (λ e. epoch incarnation ≤ epoch e.incarnation) (λ e. is_of_earlier epoch incarnation e ≡ false)
+    (λ e l. le-ltb (epoch e.incarnation) (epoch incarnation) l) tail k))
     ∙ max-zero (greatest (λ _. true) es))

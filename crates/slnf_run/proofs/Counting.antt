@@ -81,27 +81,27 @@ pub count_by_items : (m : ℕ) (items : List Item) (test : Entry → Bool) (es :
     ((item : Item) → count (λ e. test e && is_item item e) es ≤ m) → count test es ≤ length items * m
 count_by_items m [] test es covers each =
     let none : count test es ≤ 0 = count_none test es
-        (each-weaker (λ e. test e ≡ true → false ≡ true) (λ e. test e ≡ true → ⊥) (λ e h t. let no : false ≡ true =
-        h t in cc) es covers) in
+    (each-weaker (λ e. test e ≡ true → false ≡ true) (λ e. test e ≡ true → ⊥) (λ e h t. let no : false ≡ true =
+    h t in cc) es covers) in
     omega arith
 count_by_items m (item ∷ items) test es covers each =
     let rest : Entry → Bool = λ e. test e && not (is_item item e) in
     let rest_covers : Covers rest items es = each-weaker (λ e. test e ≡ true → (is_item item e || is_of_items items e)
-        ≡ true) (λ e. rest e ≡ true → is_of_items items e ≡ true)
+    ≡ true) (λ e. rest e ≡ true → is_of_items items e ≡ true)
     (λ e h t. let parts = and_parts (test e) (not (is_item item e)) t in
-        or_rest (is_item item e) (is_of_items items e) (h parts.0) (not_true (is_item item e) parts.1)) es covers in
+    or_rest (is_item item e) (is_of_items items e) (h parts.0) (not_true (is_item item e) parts.1)) es covers in
     let fewer : (other : Item) → count (λ e. rest e && is_item other e) es ≤ m = λ other.
     let less : count (λ e. rest e && is_item other e) es ≤ count (λ e. test e && is_item other e) es =
-        count_less (λ e. rest e && is_item other e) (λ e. test e && is_item other e)
+    count_less (λ e. rest e && is_item other e) (λ e. test e && is_item other e)
     (λ e h. let parts = and_parts (rest e) (is_item other e) h in
-        and_from (test e) (is_item other e) (and_parts (test e) (not (is_item item e)) parts.0).0 parts.1) es in
+    and_from (test e) (is_item other e) (and_parts (test e) (not (is_item item e)) parts.0).0 parts.1) es in
     let most : count (λ e. test e && is_item other e) es ≤ m = each other in
     le_trans_nat (count (λ e. rest e && is_item other e) es)
-        (count (λ e. test e && is_item other e) es) m less most in
+    (count (λ e. test e && is_item other e) es) m less most in
     sum_below (count test es) (count (λ e. test e && is_item item e) es) (count rest es) m (length items * m)
-        (suc (length items) * m)
+    (suc (length items) * m)
     (count_split test (is_item item) es) (each item) (count_by_items m items rest es rest_covers fewer)
-        (suc-mul (length items) m)
+    (suc-mul (length items) m)
   where
     le_trans_nat : (a b c : ℕ) → a ≤ b → b ≤ c → a ≤ c
     le_trans_nat a b c h k = omega arith
@@ -118,23 +118,23 @@ pub count_sum : (most : ℕ → ℕ → ℕ) (items : List Item) (test : Entry �
     && is_item item e) es ≤ most item.incarnation item.number) → count test es ≤ sum_over most items
 count_sum most [] test es covers each =
     count_none test es (each-weaker (λ e. test e ≡ true → false ≡ true) (λ e. test e ≡ true → ⊥)
-        (λ e h t. let no : false ≡ true = h t in cc) es covers)
+    (λ e h t. let no : false ≡ true = h t in cc) es covers)
 count_sum most (item ∷ items) test es covers each =
     let rest : Entry → Bool = λ e. test e && not (is_item item e) in
     let rest_covers : Covers rest items es = each-weaker (λ e. test e ≡ true → (is_item item e || is_of_items items e)
-        ≡ true) (λ e. rest e ≡ true → is_of_items items e ≡ true)
+    ≡ true) (λ e. rest e ≡ true → is_of_items items e ≡ true)
     (λ e h t. let parts = and_parts (test e) (not (is_item item e)) t in
-        or_rest (is_item item e) (is_of_items items e) (h parts.0) (not_true (is_item item e) parts.1)) es covers in
+    or_rest (is_item item e) (is_of_items items e) (h parts.0) (not_true (is_item item e) parts.1)) es covers in
     let fewer : (other : Item) → count (λ e. rest e && is_item other e) es ≤ most other.incarnation other.number =
-        λ other.
+    λ other.
     let less : count (λ e. rest e && is_item other e) es ≤ count (λ e. test e && is_item other e) es =
-        count_less (λ e. rest e && is_item other e) (λ e. test e && is_item other e)
+    count_less (λ e. rest e && is_item other e) (λ e. test e && is_item other e)
     (λ e h. let parts = and_parts (rest e) (is_item other e) h in
-        and_from (test e) (is_item other e) (and_parts (test e) (not (is_item item e)) parts.0).0 parts.1) es in
+    and_from (test e) (is_item other e) (and_parts (test e) (not (is_item item e)) parts.0).0 parts.1) es in
     le_trans (count (λ e. rest e && is_item other e) es) (count (λ e. test e && is_item other e) es)
-        (most other.incarnation other.number) less (each other) in
+    (most other.incarnation other.number) less (each other) in
     below (count test es) (count (λ e. test e && is_item item e) es) (count rest es)
-        (most item.incarnation item.number) (sum_over most items)
+    (most item.incarnation item.number) (sum_over most items)
     (count_split test (is_item item) es) (each item) (count_sum most items rest es rest_covers fewer)
 
 -- the items of entries cover them

@@ -32,7 +32,7 @@ module _ {F A : Type 0} (s : Scene F A) (es : List Entry) (i k : ℕ) (first : F
   SoFar t =
       (decided_at (s.machine i) (stand_of s i k (take t es)) ≡ None)
       ⊎ ((d : ℕ) × (verdict : Verdict) × IsDecidedAt s es i k d first verdict
-          × (decided_at (s.machine i) (stand_of s i k (take t es)) ≡ Some verdict))
+      × (decided_at (s.machine i) (stand_of s i k (take t es)) ≡ Some verdict))
 
   so_far : (t : ℕ) → t ≤ length es → SoFar t
   so_far zero h = inl (ap (decided_at (s.machine i)) began ∙ undecided)
@@ -53,10 +53,10 @@ module _ {F A : Type 0} (s : Scene F A) (es : List Entry) (i k : ℕ) (first : F
           own a b =
               ap (stand_of s i k) r.1.front
               ∙ subst (λ j. stand_of s j k (take t es ++ r.0 ∷ [])
-                  ≡ stand_step (s.machine j) (stand_of s j k (take t es)) r.0) a
+              ≡ stand_step (s.machine j) (stand_of s j k (take t es)) r.0) a
               (subst (λ l. stand_of s r.0.incarnation l (take t es ++ r.0 ∷ [])
-                  ≡ stand_step (s.machine r.0.incarnation) (stand_of s r.0.incarnation l (take t es)) r.0) b
-                  (stand_of-own s (take t es) r.0))
+              ≡ stand_step (s.machine r.0.incarnation) (stand_of s r.0.incarnation l (take t es)) r.0) b
+              (stand_of-own s (take t es) r.0))
 
           new : r.0.incarnation ≡ i → r.0.item ≡ k → decided_at (s.machine i) (stand_of s i k (take t es)) ≡ None →
               (o : Option Verdict) → decided_at (s.machine i)
@@ -64,21 +64,21 @@ module _ {F A : Type 0} (s : Scene F A) (es : List Entry) (i k : ℕ) (first : F
           new a b none None w = inl (ap (decided_at (s.machine i)) (own a b) ∙ w)
           new a b none (Some v) w =
               let at : decision_at s es t ≡ decision_of (s.begins r.0.incarnation r.0.item)
-                  (newly (decided_at (s.machine r.0.incarnation) (stand_of s r.0.incarnation r.0.item (take t es)))
-                  (decided_at (s.machine r.0.incarnation)
-                  (stand_step (s.machine r.0.incarnation) (stand_of s r.0.incarnation r.0.item (take t es)) r.0))) =
-                  rw r.1.at refl in
+              (newly (decided_at (s.machine r.0.incarnation) (stand_of s r.0.incarnation r.0.item (take t es)))
+              (decided_at (s.machine r.0.incarnation)
+              (stand_step (s.machine r.0.incarnation) (stand_of s r.0.incarnation r.0.item (take t es)) r.0))) =
+              rw r.1.at refl in
               let mine : decision_of (s.begins i k) (newly (decided_at (s.machine i) (stand_of s i k (take t es)))
-                  (decided_at (s.machine i) (stand_step (s.machine i) (stand_of s i k (take t es)) r.0)))
-                  ≡ Some (record { first = first; verdict = v }) =
+              (decided_at (s.machine i) (stand_step (s.machine i) (stand_of s i k (take t es)) r.0)))
+              ≡ Some (record { first = first; verdict = v }) =
               ap (λ st. decision_of st (newly (decided_at (s.machine i) (stand_of s i k (take t es)))
-                  (decided_at (s.machine i) (stand_step (s.machine i) (stand_of s i k (take t es)) r.0)))) began
+              (decided_at (s.machine i) (stand_step (s.machine i) (stand_of s i k (take t es)) r.0)))) began
               ∙ ap (λ o. decision_of (Flies first) (newly o
-                  (decided_at (s.machine i) (stand_step (s.machine i) (stand_of s i k (take t es)) r.0)))) none
+              (decided_at (s.machine i) (stand_step (s.machine i) (stand_of s i k (take t es)) r.0)))) none
               ∙ ap (decision_of (Flies first)) w in
               let D : ℕ → ℕ → Option (Decision F) = λ j l.
-                  decision_of (s.begins j l) (newly (decided_at (s.machine j) (stand_of s j l (take t es)))
-                  (decided_at (s.machine j) (stand_step (s.machine j) (stand_of s j l (take t es)) r.0))) in
+              decision_of (s.begins j l) (newly (decided_at (s.machine j) (stand_of s j l (take t es)))
+              (decided_at (s.machine j) (stand_step (s.machine j) (stand_of s j l (take t es)) r.0))) in
               inr (
                 t,
                 v,
@@ -97,14 +97,19 @@ module _ {F A : Type 0} (s : Scene F A) (es : List Entry) (i k : ℕ) (first : F
           by false w (inr p) = inr (p.0, p.1, p.2, ap (decided_at (s.machine i)) (other w) ∙ p.3)
           by true w (inl none) =
               let parts : ((r.0.incarnation == i) ≡ true) × ((r.0.item == k) ≡ true) =
-                  and_parts (r.0.incarnation == i) (r.0.item == k) w in
+              and_parts (r.0.incarnation == i) (r.0.item == k) w in
               new (eqb-true _ _ parts.0) (eqb-true _ _ parts.1) none
-                  (decided_at (s.machine i) (stand_step (s.machine i) (stand_of s i k (take t es)) r.0)) refl
+              (decided_at (s.machine i) (stand_step (s.machine i) (stand_of s i k (take t es)) r.0)) refl
           by true w (inr p) =
               let parts : ((r.0.incarnation == i) ≡ true) × ((r.0.item == k) ≡ true) =
-                  and_parts (r.0.incarnation == i) (r.0.item == k) w in
-              inr (p.0, p.1, p.2, ap (decided_at (s.machine i)) (own (eqb-true _ _ parts.0) (eqb-true _ _ parts.1))
-                  ∙ steady_step (s.machine i) (steady i) (stand_of s i k (take t es)) r.0 p.1 p.3)
+              and_parts (r.0.incarnation == i) (r.0.item == k) w in
+              inr (
+                p.0,
+                p.1,
+                p.2,
+                ap (decided_at (s.machine i)) (own (eqb-true _ _ parts.0) (eqb-true _ _ parts.1))
+                    ∙ steady_step (s.machine i) (steady i) (stand_of s i k (take t es)) r.0 p.1 p.3,
+              )
 
   -- A packet with a verdict is decided so at one of its entries.
   pub decided_somewhere : (verdict : Verdict) → decided_at (s.machine i) (stand_of s i k es) ≡ Some verdict → (d : ℕ)
@@ -116,5 +121,5 @@ module _ {F A : Type 0} (s : Scene F A) (es : List Entry) (i k : ℕ) (first : F
           ap (λ l. decided_at (s.machine i) (stand_of s i k l)) (sym (take_all es)) ∙ none in absurd (cc)
       go (inr p) =
           let same : p.1 ≡ verdict = same_Some p.1 verdict (sym p.3
-              ∙ ap (λ l. decided_at (s.machine i) (stand_of s i k l)) (take_all es) ∙ h) in
+          ∙ ap (λ l. decided_at (s.machine i) (stand_of s i k l)) (take_all es) ∙ h) in
           (p.0, subst (IsDecidedAt s es i k p.0 first) same p.2)

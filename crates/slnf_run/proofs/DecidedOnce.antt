@@ -57,12 +57,12 @@ is_decision {F = F} {A = A} s es d decision h = go (slice_get es d) refl h
     go None w h = cc
     go (Some e) w h =
         let parts : (s.begins e.incarnation e.item ≡ Flies decision.first)
-            × (decided_by s (take d es) e ≡ Some decision.verdict) =
-            decision_of_parts (s.begins e.incarnation e.item) (decided_by s (take d es) e) decision h in
+        × (decided_by s (take d es) e ≡ Some decision.verdict) =
+        decision_of_parts (s.begins e.incarnation e.item) (decided_by s (take d es) e) decision h in
         let both : (decided_at (s.machine e.incarnation) (stand_of s e.incarnation e.item (take d es)) ≡ None)
-            × (decided_at (s.machine e.incarnation) (stand_step (s.machine e.incarnation)
-            (stand_of s e.incarnation e.item (take d es)) e) ≡ Some decision.verdict) =
-            newly_parts _ _ decision.verdict parts.1 in
+        × (decided_at (s.machine e.incarnation) (stand_step (s.machine e.incarnation)
+        (stand_of s e.incarnation e.item (take d es)) e) ≡ Some decision.verdict) =
+        newly_parts _ _ decision.verdict parts.1 in
         (e, record { at = w; begins = parts.0; before = both.0; after = both.1 })
 
 pub is_of-itself : (e : Entry) → is_of e.incarnation e.item e ≡ true
@@ -82,7 +82,7 @@ pub stand_of-own : {F A : Type 0} (s : Scene F A) (xs : List Entry) (e : Entry) 
 stand_of-own s xs e =
     stand_of-append s e.incarnation e.item xs (e ∷ [])
     ∙ ap (λ b. stand_after (s.machine e.incarnation) (stand_of s e.incarnation e.item xs) (cond b (e ∷ []) []))
-        (is_of-itself e)
+    (is_of-itself e)
 
 -- a longer front goes on from a shorter one
 pub take_further : {X : Type 0} (n m : ℕ) (xs : List X) → n ≤ m → take m xs ≡ take n xs ++ drop n (take m xs)
@@ -98,14 +98,14 @@ decided_behind s es d b decision e r steady h =
     let same : split.0 ≡ e = same_Some split.0 e (sym split.1.at ∙ r.at) in
     let front : take (suc d) es ≡ take d es ++ e ∷ [] = split.1.front ∙ ap (λ f. take d es ++ f ∷ []) same in
     let whole : take b es ≡ (take d es ++ e ∷ []) ++ drop (suc d) (take b es) =
-        take_further (suc d) b es (omega arith) ∙ ap (λ ys. ys ++ drop (suc d) (take b es)) front in
+    take_further (suc d) b es (omega arith) ∙ ap (λ ys. ys ++ drop (suc d) (take b es)) front in
     let m : Machine _ = s.machine e.incarnation in
     let here : decided_at m (stand_of s e.incarnation e.item (take d es ++ e ∷ [])) ≡ Some decision.verdict =
-        ap (decided_at m) (stand_of-own s (take d es) e) ∙ r.after in
+    ap (decided_at m) (stand_of-own s (take d es) e) ∙ r.after in
     ap (decided_at m) (ap (stand_of s e.incarnation e.item) whole
-        ∙ stand_of-append s e.incarnation e.item (take d es ++ e ∷ []) (drop (suc d) (take b es)))
+    ∙ stand_of-append s e.incarnation e.item (take d es ++ e ∷ []) (drop (suc d) (take b es)))
     ∙ steady_after m steady (stand_of s e.incarnation e.item (take d es ++ e ∷ []))
-        (own_of e.incarnation e.item (drop (suc d) (take b es))) decision.verdict here
+    (own_of e.incarnation e.item (drop (suc d) (take b es))) decision.verdict here
 
 -- so no later entry decides it
 not_later : {F A : Type 0} (s : Scene F A) (es : List Entry) (d b : ℕ) (x y : Decision F) (e f : Entry) →
@@ -114,9 +114,9 @@ not_later : {F A : Type 0} (s : Scene F A) (es : List Entry) (d b : ℕ) (x y : 
 not_later s es d b x y e f r q steady own_i own_k h =
     let Undecided : ℕ → ℕ → Type 0 = λ i k. decided_at (s.machine i) (stand_of s i k (take b es)) ≡ None in
     let none : Undecided e.incarnation e.item = subst (λ i. Undecided i e.item) own_i
-        (subst (λ k. Undecided f.incarnation k) own_k q.before) in
+    (subst (λ k. Undecided f.incarnation k) own_k q.before) in
     let some : decided_at (s.machine e.incarnation) (stand_of s e.incarnation e.item (take b es)) ≡ Some x.verdict =
-        decided_behind s es d b x e r steady h in
+    decided_behind s es d b x e r steady h in
     cc
 
 -- An item is decided at one entry.

@@ -42,9 +42,9 @@ era_of-rises (era ∷ eras) i k l =
       | inr later ↦
           let a : era_of (era ∷ eras) i ≡ era_of eras (i - length era.actors) + 1 = era_of-later era eras i later in
           let b : era_of (era ∷ eras) k ≡ era_of eras (k - length era.actors) + 1 =
-              era_of-later era eras k (omega arith) in
+          era_of-later era eras k (omega arith) in
           let c : era_of eras (i - length era.actors) ≤ era_of eras (k - length era.actors) =
-              era_of-rises eras (i - length era.actors) (k - length era.actors) (omega arith) in
+          era_of-rises eras (i - length era.actors) (k - length era.actors) (omega arith) in
           rw (a, b) (omega arith)
     ]
 
@@ -87,8 +87,8 @@ next_of_wanted : {F A : Type 0} (s : Setting F A) (way : Way) → IsLawful (era_
 next_of_wanted s way lawful posts number base places actors es k actor ask hand stands at e =
     let l : k < length actors = slice_get_within actors k actor at in
     let access : IsNextAccess s es (base + k) (at_lane places actor) actor ask =
-        wanted_tells s way.comes_before (lawful.before, lawful.behind) es (base + k)
-        (at_lane places actor) actor ask e in
+    wanted_tells s way.comes_before (lawful.before, lawful.behind) es (base + k)
+    (at_lane places actor) actor ask e in
     record {
       made = record {
         above = lawful.above es (base + k) (key_of ask.request % s.shards) stands.short;
@@ -106,7 +106,7 @@ next_of_wanted s way lawful posts number base places actors es k actor ask hand 
       below =
           below_stop actor (part_of (base + k) es) access.running
           (grown_within_stop s posts (base + k) (post_of number places actor) [] es
-              (hand.posted k actor at) stands.grown (within_stop-none actor));
+          (hand.posted k actor at) stands.grown (within_stop-none actor));
       earlier = access.earlier;
     }
 
@@ -116,7 +116,7 @@ short_push es e h k =
     let size : length (es ++ e ∷ []) ≡ length es + 1 = length-append es (e ∷ []) in
     each-push (λ f. f.stamp ≤ length (es ++ e ∷ [])) es e
     (each-weaker (λ f. f.stamp ≤ length es) (λ f. f.stamp ≤ length (es ++ e ∷ []))
-        (λ f l. let n : f.stamp ≤ length es = l in omega arith) es h) (omega arith)
+    (λ f l. let n : f.stamp ≤ length es = l in omega arith) es h) (omega arith)
 
 next_kept : {F A : Type 0} (s : Setting F A) (way : Way) → IsLawful (era_of s.eras) way →
     (posts : List Post) (number base : ℕ) (places : ℕ → ℕ) (actors : List Actor) →
@@ -169,7 +169,7 @@ done_of_nobody s c posts es m number places incarnation [] grown posted same nob
 done_of_nobody s c posts es m number places incarnation (actor ∷ actors) grown posted same nobody = (
   done_of_nothing s c posts es m incarnation (post_of number places actor) grown
       (subst (λ i. slice_get posts i ≡ Some (post_of number places actor)) (add-zero incarnation)
-          (posted 0 actor refl))
+      (posted 0 actor refl))
       (same incarnation (omega arith)) nobody.0,
   done_of_nobody s c posts es m number places (incarnation + 1) actors grown
       (λ k later at.
@@ -193,7 +193,7 @@ epochs_grow s way lawful posts (era ∷ eras) earlier number base places es m h 
     let here : List Post = map (post_of number places) era.actors in
     let same : (i : ℕ) → i < base + count → part_of i after ≡ part_of i m =
     λ i l. sym (part_of-later i (base + count) after m l
-        (makes_from s way eras (base + count) (places_after s after base places era) after m h.1.1)) in
+    (makes_from s way eras (base + count) (places_after s after base places era) after m h.1.1)) in
     let lanes : places_after s m base places era ≡ places_after s after base places era =
     places_after-same s m after base places era (λ i l. sym (same i l)) in
     let later : (ℕ → ℕ) → List Post = λ q. posts_from s m (number + 1) (base + count) q eras in
@@ -207,16 +207,20 @@ epochs_grow s way lawful posts (era ∷ eras) earlier number base places es m h 
     } in
     let standing : Stands s posts (base + count) after =
     (turns_reach s way base places era (Stands s posts (base + count)) (IsNextWithin s posts base count) (era.schedule
-        ++ repeat h.0 (round era)) es
+    ++ repeat h.0 (round era)) es
     (next_kept s way lawful posts number base places era.actors hand)
-    (record { grown = stands.grown; short = stands.short; before =
-        each-weaker (λ e. e.incarnation < base) (λ e. e.incarnation < base + count)
-        (λ e l. let k : e.incarnation < base = l in omega arith) es stands.before })).lasts in
+    (record {
+      grown = stands.grown;
+      short = stands.short;
+      before =
+          each-weaker (λ e. e.incarnation < base) (λ e. e.incarnation < base + count)
+          (λ e l. let k : e.incarnation < base = l in omega arith) es stands.before;
+    })).lasts in
     let length_here : length here ≡ count = length-map era.actors (post_of number places) in
     let rest : Grown (IsNext s posts) [] m × EveryAt (IsDone s m) (base + count)
-        (later (places_after s after base places era)) =
+    (later (places_after s after base places era)) =
     epochs_grow s way lawful posts eras (earlier ++ here) (number + 1) (base + count)
-        (places_after s after base places era) after m h.1.1
+    (places_after s after base places era) after m h.1.1
     (length-append earlier here ∙ ap₂ (λ a b. a + b) len length_here)
     (λ i from.
     let a : i - base - count ≡ i - (base + count) = omega arith in
@@ -225,11 +229,11 @@ epochs_grow s way lawful posts (era ∷ eras) earlier number base places es m h 
     ∙ (omega arith)))
     standing
     (p ∙ (ap (λ q. earlier ++ (here ++ later q)) lanes
-        ∙ sym (append_assoc earlier here (later (places_after s after base places era))))) in (
+    ∙ sym (append_assoc earlier here (later (places_after s after base places era))))) in (
       rest.0,
       every_at-append (IsDone s m) base here (later (places_after s m base places era))
           (done_of_nobody s way.comes_before posts after m number places base era.actors standing.grown hand.posted
-              same h.1.0)
+          same h.1.0)
           (subst₂ (λ n q. EveryAt (IsDone s m) (base + n) (later q)) (sym length_here) (sym lanes) rest.1),
     )
 

@@ -19,10 +19,10 @@ module _ {F A C : Type 0} (s : Scene F A) (box : Box A C) (es : List Entry) (Inv
       let r : (e : Entry) × IsSplit es t e = split_at es t h in
       let earlier : Inv (take t es) (content_after s box es t) = keeps t (omega arith) in
       let now : Inv (take t es ++ r.0 ∷ []) (content_through box (content_after s box es t)
-          (visits_of s es (length (take t es)) r.0)) =
-          (step (take t es) (drop (suc t) es) r.0 (content_after s box es t) r.1.whole earlier).1 in
+      (visits_of s es (length (take t es)) r.0)) =
+      (step (take t es) (drop (suc t) es) r.0 (content_after s box es t) r.1.whole earlier).1 in
       rw (r.1.front, r.1.at) (subst (λ n. Inv (take t es ++ r.0 ∷ [])
-          (content_through box (content_after s box es t) (visits_of s es n r.0))) r.1.size now)
+      (content_through box (content_after s box es t) (visits_of s es n r.0))) r.1.size now)
 
   pub agrees : (t : ℕ) (e : Entry) → slice_get es t ≡ Some e →
       Agrees box (content_after s box es t) (visits_of s es t e)
@@ -31,11 +31,14 @@ module _ {F A C : Type 0} (s : Scene F A) (box : Box A C) (es : List Entry) (Inv
       let r : (f : Entry) × IsSplit es t f = split_at es t h in
       let same : r.0 ≡ e = same_Some r.0 e (sym r.1.at ∙ at) in
       let now : Agrees box (content_after s box es t) (visits_of s es (length (take t es)) r.0) =
-          (step (take t es) (drop (suc t) es) r.0 (content_after s box es t) r.1.whole (keeps t (omega arith))).0 in
+      (step (take t es) (drop (suc t) es) r.0 (content_after s box es t) r.1.whole (keeps t (omega arith))).0 in
       subst (λ f. Agrees box (content_after s box es t) (visits_of s es t f)) same
-          (subst (λ n. Agrees box (content_after s box es t) (visits_of s es n r.0)) r.1.size now)
+      (subst (λ n. Agrees box (content_after s box es t) (visits_of s es n r.0)) r.1.size now)
 
   pub explained : (Same : C → Cells → Type 0) →
       ((before : List Entry) (c : C) → Inv before c → Same c (map_after empty before)) → IsExplained s box Same es
-  explained Same same = record { verdicts = agrees; maps =
-      λ t h. same (take t es) (content_after s box es t) (keeps t h) }
+  explained Same same = record {
+    verdicts = agrees;
+    maps =
+        λ t h. same (take t es) (content_after s box es t) (keeps t h);
+  }

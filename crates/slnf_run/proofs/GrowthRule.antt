@@ -40,7 +40,7 @@ pub grown_path : {F A : Type 0} (s : Setting F A) (posts : List Post) (incarnati
 grown_path s posts incarnation item es [] h = tt
 grown_path s posts incarnation item es (e ∷ tail) h =
     let rest : IsPath (s.scene.machine incarnation) (stand_of s.scene incarnation item (es ++ e ∷ []))
-        (of_item item (part_of incarnation tail)) =
+    (of_item item (part_of incarnation tail)) =
     grown_path s posts incarnation item (es ++ e ∷ []) tail h.1 in
     elim (cases_eq e.incarnation incarnation) [
       | inr n ↦
@@ -51,12 +51,12 @@ grown_path s posts incarnation item es (e ∷ tail) h =
             subst₂ (λ stand own. IsPath (s.scene.machine incarnation) stand own)
             (stand_of-other_item s incarnation item es e i n)
             (sym (ap (of_item item) (part_of-own incarnation e tail i)
-                ∙ of_item-other item e (part_of incarnation tail) n))
+            ∙ of_item-other item e (part_of incarnation tail) n))
             rest
         | inl k ↦
             subst (λ own. IsPath (s.scene.machine incarnation) (stand_of s.scene incarnation item es) own)
             (sym (ap (of_item item) (part_of-own incarnation e tail i)
-                ∙ of_item-own item e (part_of incarnation tail) k)) (
+            ∙ of_item-own item e (part_of incarnation tail) k)) (
               subst₂ (λ own number. IsAsked (s.scene.machine own) (stand_of s.scene own number es) e) i k h.0.asked,
               subst (λ stand. IsPath (s.scene.machine incarnation) stand (of_item item (part_of incarnation tail)))
                   (stand_of-own s incarnation item es e i k) rest,
@@ -78,7 +78,7 @@ grown_offered s posts incarnation post es (e ∷ tail) p h =
       | inl i ↦
           let same : h.0.post ≡ post = same_Some h.0.post post (sym h.0.posted ∙ (ap (slice_get posts) i ∙ p)) in
           subst (AllByRecursion (λ e. IsOffered e.item (offers_at s incarnation post)))
-              (sym (part_of-own incarnation e tail i))
+          (sym (part_of-own incarnation e tail i))
           (subst₂ (λ own post. IsOffered e.item (offers_at s own post)) i same h.0.offered, rest)
     ]
 
@@ -91,7 +91,7 @@ grown_by_batch s posts before later e post h p =
     let next : IsNext s posts before e = grown_at (IsNext s posts) [] before later e h in
     let same : next.post ≡ post = same_Some next.post post (sym next.posted ∙ p) in
     subst (λ post. EarlierEnded s e.incarnation before (batch_of e.item (offers_at s e.incarnation post))
-        (offers_at s e.incarnation post)) same next.earlier
+    (offers_at s e.incarnation post)) same next.earlier
 
 -- no part passes its stop
 pub grown_within_stop : {F A : Type 0} (s : Setting F A) (posts : List Post) (incarnation : ℕ) (post : Post)
@@ -105,14 +105,14 @@ grown_within_stop s posts incarnation post es (e ∷ tail) p h k =
       | inr n ↦
           subst (IsWithinStop post.actor)
           (sym (part_of-append incarnation es (e ∷ [])
-              ∙ (ap (λ l. part_of incarnation es ++ l) (part_of-other incarnation e [] n)
-              ∙ append-nil (part_of incarnation es))))
+          ∙ (ap (λ l. part_of incarnation es ++ l) (part_of-other incarnation e [] n)
+          ∙ append-nil (part_of incarnation es))))
           k
       | inl i ↦
           let same : h.0.post ≡ post = same_Some h.0.post post (sym h.0.posted ∙ (ap (slice_get posts) i ∙ p)) in
           subst (IsWithinStop post.actor)
           (sym (part_of-append incarnation es (e ∷ [])
-              ∙ ap (λ l. part_of incarnation es ++ l) (part_of-own incarnation e [] i)))
+          ∙ ap (λ l. part_of incarnation es ++ l) (part_of-own incarnation e [] i)))
           (within_stop-more post.actor (part_of incarnation es) e
           (subst₂ (λ own post. IsBelowStop post.actor (part_of own es)) i same h.0.below))
     ] in

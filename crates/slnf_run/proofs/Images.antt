@@ -58,7 +58,7 @@ module _ {F G A : Type 0} (into : F → G) (s : Scene F A) (t : Scene G A) (imag
       let st : Stand F = stand_of s i e.item before in
       let there : stand_of t i e.item before ≡ stand_as into st = stand_of_as i e.item before in
       ap (λ now. newly (decided_at (t.machine i) now) (decided_at (t.machine i) (stand_step (t.machine i) now e)))
-          there
+      there
       ∙ ap₂ newly (decided_as into (s.machine i) (t.machine i) (image.machine i) st)
       (ap (decided_at (t.machine i)) (step_as into (s.machine i) (t.machine i) (image.machine i) st e)
       ∙ decided_as into (s.machine i) (t.machine i) (image.machine i) (stand_step (s.machine i) st e))
@@ -80,7 +80,7 @@ module _ {F G A : Type 0} (into : F → G) (s : Scene F A) (t : Scene G A) (imag
       ≡ visit_by s es number e d
   visit_by_as es number e d =
       ap (option_and_then {U = Visit A} (λ x. cond (t.place es d x.first x.verdict == number)
-          (Some (record { arrival = t.arrival x.first e; verdict = Some x.verdict })) None)) (decision_at_as es d)
+      (Some (record { arrival = t.arrival x.first e; verdict = Some x.verdict })) None)) (decision_at_as es d)
       ∙ go (decision_at s es d)
     where
       go : (o : Option (Decision F)) → option_and_then {U = Visit A}

@@ -41,7 +41,7 @@ sum_most most m (item ∷ items) h =
     let rest : sum_over most items ≤ length items * m = sum_most most m items h.1 in
     let q : suc (length items) * m ≡ length items * m + m = suc-mul (length items) m in
     go (most item.incarnation item.number) (sum_over most items) (length items * m)
-        (suc (length items) * m) here rest q
+    (suc (length items) * m) here rest q
   where
     go : (a b c d : ℕ) → a ≤ m → b ≤ c → d ≡ c + m → a + b ≤ d
     go a b c d h k q = omega arith
@@ -85,7 +85,7 @@ module _ (by : ℕ → ℕ) where
         let at : e.item ≡ a = (let m : e.item < suc a = less.1 in omega arith) in
         let it = is_it (by a) a e (own ∙ ap by at) at in
         or_first (is_item (record { incarnation = by a; number = a }) e) (is_of_items (row (range_with_len (a + 1) n)) e)
-            (and_from (e.incarnation == by a) (e.item == a) it.0 it.1)
+        (and_from (e.incarnation == by a) (e.item == a) it.0 it.1)
   ]
 
 module _ {F A : Type 0} (s : Setting F A) (j : List Entry) (sound : IsSound s) (run : IsRun s j) where
@@ -114,11 +114,11 @@ module _ {F A : Type 0} (s : Setting F A) (j : List Entry) (sound : IsSound s) (
   packets_size lane (count ∷ counts) =
       let r : length (packets_from (lane + 1) counts) ≡ total_of counts = packets_size (lane + 1) counts in
       let a : length (row (taker_of lane) (range_with_len 0 count) ++ packets_from (lane + 1) counts)
-          ≡ length (row (taker_of lane) (range_with_len 0 count)) + length (packets_from (lane + 1) counts) =
-          length-append (row (taker_of lane) (range_with_len 0 count)) (packets_from (lane + 1) counts) in
+      ≡ length (row (taker_of lane) (range_with_len 0 count)) + length (packets_from (lane + 1) counts) =
+      length-append (row (taker_of lane) (range_with_len 0 count)) (packets_from (lane + 1) counts) in
       let b : length (row (taker_of lane) (range_with_len 0 count)) ≡ count =
-          length-map (range_with_len 0 count) (λ n. record { incarnation = taker_of lane n; number = n })
-          ∙ length-range_with_len 0 count in
+      length-map (range_with_len 0 count) (λ n. record { incarnation = taker_of lane n; number = n })
+      ∙ length-range_with_len 0 count in
       omega arith
 
   in_packets : (lane l : ℕ) (counts : List ℕ) (e : Entry) → e.item < slice_index counts l → taker_of (lane + l) e.item
@@ -145,8 +145,8 @@ module _ {F A : Type 0} (s : Setting F A) (j : List Entry) (sound : IsSound s) (
   swept_size : (i : ℕ) (o : Option ℕ) → length (swept_by i o) ≡ elim o [ None ↦ 1 | Some lane ↦ 0 ] * s.sweep_items
   swept_size i None =
       let b : length (row (λ n. i) (range_with_len 0 s.sweep_items)) ≡ s.sweep_items =
-          length-map (range_with_len 0 s.sweep_items) (λ n. record { incarnation = i; number = n })
-          ∙ length-range_with_len 0 s.sweep_items in
+      length-map (range_with_len 0 s.sweep_items) (λ n. record { incarnation = i; number = n })
+      ∙ length-range_with_len 0 s.sweep_items in
       omega arith
   swept_size i (Some lane) = omega arith
 
@@ -166,10 +166,10 @@ module _ {F A : Type 0} (s : Setting F A) (j : List Entry) (sound : IsSound s) (
       let q : i + 0 ≡ i = omega arith in
       among_left (swept_by i a.lane) (sweeps_from (i + 1) actors) e
       (subst (λ o. is_of_items (swept_by i o) e ≡ true) (sym (ap (λ (x : Actor). x.lane) same ∙ none))
-          (in_row (λ n. i) 0 s.sweep_items e (omega arith) (omega arith) (own ∙ q)))
+      (in_row (λ n. i) 0 s.sweep_items e (omega arith) (omega arith) (own ∙ q)))
   in_sweeps i (suc k) (a ∷ actors) actor e at none size own =
       among_right (swept_by i a.lane) (sweeps_from (i + 1) actors) e
-          (in_sweeps (i + 1) k actors actor e at none size (let q : i + suc k ≡ i + 1 + k = omega arith in own ∙ q))
+      (in_sweeps (i + 1) k actors actor e at none size (let q : i + suc k ≡ i + 1 + k = omega arith in own ∙ q))
 
   each_row : (P : ℕ → ℕ → Type 0) (i : ℕ) → ((k : ℕ) → P i k) → (numbers : List ℕ) → EachItem P (row (λ n. i) numbers)
   each_row P i h [] = tt
@@ -188,7 +188,7 @@ module _ {F A : Type 0} (s : Setting F A) (j : List Entry) (sound : IsSound s) (
       each_append P (swept_by i actor.lane) (sweeps_from (i + 1) actors)
       (go actor.lane refl)
       (each_swept P (i + 1) actors (λ k number a at none. let q : i + suc k ≡ i + 1 + k = omega arith in
-          subst (λ n. P n number) q (h (suc k) number a at none)))
+      subst (λ n. P n number) q (h (suc k) number a at none)))
     where
       go : (o : Option ℕ) → actor.lane ≡ o → EachItem P (swept_by i o)
       go None w = each_row P i (λ number. let q : i + 0 ≡ i = omega arith in
@@ -200,15 +200,15 @@ module _ {F A : Type 0} (s : Setting F A) (j : List Entry) (sound : IsSound s) (
       k < s.sweep_items
   swept_within i k post none offered =
       let offers : List Offer = batched 1 (λ item. first_key_of (s.scene.machine i) (s.scene.begins i item)) 0 0 []
-          (range_with_len 0 s.sweep_items) in
+      (range_with_len 0 s.sweep_items) in
       let is : offers_of s i post.at post.actor ≡ offers =
-          ap (λ on. offers_of s i post.at (record { lane = on; quota = post.actor.quota; stop = post.actor.stop }))
-          none in
+      ap (λ on. offers_of s i post.at (record { lane = on; quota = post.actor.quota; stop = post.actor.stop }))
+      none in
       let has : has_item k offers ≡ true = ap (has_item k) (sym is) ∙ offered_has k (offers_at s i post) offered in
       let r : (0 ≤ k) × (k < 0 + s.sweep_items) =
-          has_in_range k 0 s.sweep_items offers (items_batched 1
-          (λ item. first_key_of (s.scene.machine i) (s.scene.begins i item)) 0 0 [] (range_with_len 0 s.sweep_items))
-          has in
+      has_in_range k 0 s.sweep_items offers (items_batched 1
+      (λ item. first_key_of (s.scene.machine i) (s.scene.begins i item)) 0 0 [] (range_with_len 0 s.sweep_items))
+      has in
       omega arith
 
   -- The packets of the lanes, and the sweeps' items.
@@ -237,7 +237,7 @@ module _ {F A : Type 0} (s : Setting F A) (j : List Entry) (sound : IsSound s) (
       at before later e split =
           let p : (post : Post) × IsSplit (posts_of s j) e.incarnation post =
           split_at (posts_of s j) e.incarnation (each-at (λ e. e.incarnation < length (posts_of s j)) before later e
-              (subst (AllByRecursion (λ e. e.incarnation < length (posts_of s j))) split run.of_actors)) in
+          (subst (AllByRecursion (λ e. e.incarnation < length (posts_of s j))) split run.of_actors)) in
           go p.0 p.1.at p.0.actor.lane refl
         where
           there : slice_get j (length before) ≡ Some e
@@ -249,13 +249,13 @@ module _ {F A : Type 0} (s : Setting F A) (j : List Entry) (sound : IsSound s) (
               among_right packets sweeps e
               (in_sweeps 0 e.incarnation (actors_of s.eras) post.actor e (actor_at s j e.incarnation post posted) none
               (swept_within e.incarnation e.item post none (entry_offered s j run before later e post split posted))
-                  (omega arith))
+              (omega arith))
           go post posted (Some lane) is =
               let on : is_on lane post.actor ≡ true = ap (λ o. elim o [ None ↦ false | Some own ↦ own == lane ]) is
-                  ∙ eq-eqb lane lane refl in
+              ∙ eq-eqb lane lane refl in
               let took : Took s j lane e.item e.incarnation =
-                  taken_by_entry s j run lane (length before) e there (post, posted, on) in
+              taken_by_entry s j run lane (length before) e there (post, posted, on) in
               let t : IsTaker s j lane e.item e.incarnation = taker s j lane e.item e.incarnation took in
               among_left packets sweeps e
               (in_packets 0 lane s.lanes e (taken_inside s j lane e.incarnation e.item t.post t.on t.took)
-                  (ap (λ n. taker_of n e.item) (zero-add lane) ∙ taker_is lane e.item e.incarnation took))
+              (ap (λ n. taker_of n e.item) (zero-add lane) ∙ taker_is lane e.item e.incarnation took))

@@ -74,7 +74,7 @@ module _ {F A C : Type 0} (s : Scene F A) (box : Box A C) (es : List Entry) (Inv
       × Inv (before ++ e ∷ []) (content_through box c (visits_of s es (length before) e))
   step before later e c split inv =
       let r : (first : F) × (flight : F) × IsNext s (map_after empty before)
-          (own_of e.incarnation e.item before) e first flight = is_next s es legal paths before later e split in
+      (own_of e.incarnation e.item before) e first flight = is_next s es legal paths before later e split in
       go r.0 r.1 r.2 (searched (visit_by s es n e) (length es))
     where
       n : ℕ
@@ -89,8 +89,10 @@ module _ {F A C : Type 0} (s : Scene F A) (box : Box A C) (es : List Entry) (Inv
       right : (vs : List (Visit A)) → Agrees box (cleared s box c e) vs →
           Inv (before ++ e ∷ []) (content_through box (cleared s box c e) vs) → visits_of s es n e
           ≡ map removal (s.removals e) ++ vs → Right (visits_of s es n e)
-      right vs h k w = subst Right (sym w) (agrees_removals box c (s.removals e) vs h,
-          subst (Inv (before ++ e ∷ [])) (sym (content_removals box c (s.removals e) vs)) k)
+      right vs h k w = subst Right (sym w) (
+        agrees_removals box c (s.removals e) vs h,
+        subst (Inv (before ++ e ∷ [])) (sym (content_removals box c (s.removals e) vs)) k,
+      )
 
       go : (first flight : F) → IsNext s (map_after empty before)
           (own_of e.incarnation e.item before) e first flight →
@@ -98,37 +100,48 @@ module _ {F A C : Type 0} (s : Scene F A) (box : Box A C) (es : List Entry) (Inv
           ⊎ ((d : ℕ) → d < length es → visit_by s es n e d ≡ None) → Right (visits_of s es n e)
       go first flight next (inr none) =
           let comes : Comes s es n e first None = λ d x h place. let q : (f : Entry) × IsDecision s es d x f =
-              is_decision s es d x h in let within : d < length es = slice_get_within es d q.0 q.1.at in
-              let gone : visit_by s es n e d ≡ None = none d within in let there : visit_by s es n e d
-              ≡ Some (record { arrival = s.arrival x.first e; verdict = Some x.verdict }) =
-              visit_of_decision s es n e d x h place in cc in
+          is_decision s es d x h in let within : d < length es = slice_get_within es d q.0 q.1.at in
+          let gone : visit_by s es n e d ≡ None = none d within in let there : visit_by s es n e d
+          ≡ Some (record { arrival = s.arrival x.first e; verdict = Some x.verdict }) =
+          visit_of_decision s es n e d x h place in cc in
           right [] tt (at_entry before later e first flight c split next inv None comes)
           (ap (λ ys. map removal (s.removals e) ++ ys)
-              (picks_none (visit_by s es n e) 0 (length es) (λ d low high. none d (omega arith))))
+          (picks_none (visit_by s es n e) 0 (length es) (λ d low high. none d (omega arith))))
       go first flight next (inl there) =
           let d : ℕ = there.0 in
           let v : Visit A = there.1 in
           let q : IsVisit s es n e d v = is_visit s es n e d v there.2 in
           let mine : (e.incarnation ≡ q.decider.incarnation) × (e.item ≡ q.decider.item) =
-              own_visit s es n e d v own at q in
+          own_visit s es n e d v own at q in
           let Begins : ℕ → ℕ → Type 0 = λ i k. s.begins i k ≡ Flies q.decision.first in
           let begins : s.begins e.incarnation e.item ≡ Flies q.decision.first =
-              subst (λ i. Begins i e.item) (sym mine.0)
-              (subst (λ k. Begins q.decider.incarnation k) (sym mine.1) q.whole.begins) in
+          subst (λ i. Begins i e.item) (sym mine.0)
+          (subst (λ k. Begins q.decider.incarnation k) (sym mine.1) q.whole.begins) in
           let same : q.decision.first ≡ first = same_flight q.decision.first first (sym begins ∙ next.begins) in
           let placed : IsPlaced s es n e q.decision.first q.decision.verdict =
-              record { d = d; decider = q.decider; decided = q.decided; at = q.whole.at; incarnation =
-              sym mine.0; item = sym mine.1; place = q.place } in
+          record {
+            d = d;
+            decider = q.decider;
+            decided = q.decided;
+            at = q.whole.at;
+            incarnation =
+                sym mine.0;
+            item = sym mine.1;
+            place = q.place;
+          } in
           let kept : IsKept box (Inv (before ++ e ∷ [])) (cleared s box c e) (s.arrival q.decision.first e)
-              (Some q.decision.verdict) =
+          (Some q.decision.verdict) =
           subst (λ f. IsKept box (Inv (before ++ e ∷ [])) (cleared s box c e) (s.arrival f e)
-              (Some q.decision.verdict)) (sym same)
+          (Some q.decision.verdict)) (sym same)
           (at_entry before later e first flight c split next inv (Some q.decision.verdict)
-              (subst (λ f. IsPlaced s es n e f q.decision.verdict) same placed)) in
-          let visit : Visit A = record { arrival = s.arrival q.decision.first e; verdict =
-              Some q.decision.verdict } in
+          (subst (λ f. IsPlaced s es n e f q.decision.verdict) same placed)) in
+          let visit : Visit A = record {
+            arrival = s.arrival q.decision.first e;
+            verdict =
+                Some q.decision.verdict;
+          } in
           right (visit ∷ []) (kept.0, tt) kept.1 (one_visit s es n e d v steady own at there.2
-              ∙ ap (λ w. map removal (s.removals e) ++ w ∷ []) q.visit)
+          ∙ ap (λ w. map removal (s.removals e) ++ w ∷ []) q.visit)
 
   pub explained_by : (Same : C → Cells → Type 0) →
       ((before : List Entry) (c : C) → Inv before c → Same c (map_after empty before)) → IsExplained s box Same es
@@ -140,7 +153,7 @@ pub own_deciders : {F A : Type 0} (s : Scene F A) (es : List Entry) →
     HasOwnPlaces s es
 own_deciders s es at_decider number e place decision at decided there =
     let same : place ≡ e = same_Some place e (sym there
-        ∙ ap (slice_get es) (at_decider es number decision.first decision.verdict) ∙ at) in
+    ∙ ap (slice_get es) (at_decider es number decision.first decision.verdict) ∙ at) in
     (ap (λ (f : Entry). f.incarnation) same, ap (λ (f : Entry). f.item) same)
 
 -- the decision at an entry, as the machine goes there
@@ -152,13 +165,13 @@ pub decision_here : {F A : Type 0} (s : Scene F A) (es before later : List Entry
 decision_here {F = F} s es before later e cells first flight split next =
     let m : Machine F = s.machine e.incarnation in
     let at : slice_get es (length before) ≡ Some e = ap (λ xs. slice_get xs (length before)) split
-        ∙ slice_get-split before later e in
+    ∙ slice_get-split before later e in
     let front : take (length before) es ≡ before = ap (take (length before)) split
-        ∙ take-append_seam before (e ∷ later) in
+    ∙ take-append_seam before (e ∷ later) in
     let stands : stand_of s e.incarnation e.item before ≡ Flies flight =
-        ap (λ st. stand_after m st (own_of e.incarnation e.item before)) next.begins ∙ next.stands in
+    ap (λ st. stand_after m st (own_of e.incarnation e.item before)) next.begins ∙ next.stands in
     ap (option_and_then (λ f. decision_of (s.begins f.incarnation f.item) (decided_by s (take (length before) es) f)))
-        at
+    at
     ∙ ap (λ xs. decision_of (s.begins e.incarnation e.item) (decided_by s xs e)) front
     ∙ ap (λ st. decision_of st (decided_by s before e)) next.begins
     ∙ ap (λ st. decision_of (Flies first) (newly (decided_at m st) (decided_at m (stand_step m st e)))) stands
@@ -170,7 +183,7 @@ pub kept_explained : {F A C : Type 0} (s : Scene F A) (box : Box A C) (Same : C 
     Known (map_after empty before) (own_of e.incarnation e.item before) e) → IsExplained s box Same es
 kept_explained {F = F} {C = C} s box Same Known es keeps legal paths known =
     explained_by s box es (λ before c. Same c (map_after empty before)) keeps.steady
-        (own_deciders s es keeps.at_decider) legal paths keeps.at_first at_entry Same (λ before c h. h)
+    (own_deciders s es keeps.at_decider) legal paths keeps.at_first at_entry Same (λ before c h. h)
   where
     at_entry : (before later : List Entry) (e : Entry) (first flight : F) (c : C) → es ≡ before ++ e ∷ later →
         IsNext s (map_after empty before) (own_of e.incarnation e.item before) e first flight →
@@ -178,12 +191,12 @@ kept_explained {F = F} {C = C} s box Same Known es keeps legal paths known =
         IsKept box (λ now. Same now (map_after empty (before ++ e ∷ []))) (cleared s box c e) (s.arrival first e) o
     at_entry before later e first flight c split next same o comes =
         subst (λ cells. IsKept box (λ now. Same now cells) (cleared s box c e) (s.arrival first e) o)
-            (sym (map_after-push before e))
+        (sym (map_after-push before e))
         (go o comes (newly ((s.machine e.incarnation).decided flight)
-            (decided_at (s.machine e.incarnation) ((s.machine e.incarnation).goes flight e.reply)))
-            (decision_here s es before later e (map_after empty before) first flight split next)
+        (decided_at (s.machine e.incarnation) ((s.machine e.incarnation).goes flight e.reply)))
+        (decision_here s es before later e (map_after empty before) first flight split next)
         (keeps.at_entry (map_after empty before) (own_of e.incarnation e.item before) e first flight c next
-            (known before later e split) same))
+        (known before later e split) same))
       where
         At : Option Verdict → Type 0
         At o = IsKept box (λ now. Same now (map_after (map_after empty before) (e ∷ []))) (cleared s box c e)
@@ -197,7 +210,7 @@ kept_explained {F = F} {C = C} s box Same Known es keeps legal paths known =
         go (Some v) comes q h kept =
             let number : comes.d ≡ length before = sym (keeps.at_decider es comes.d first v) ∙ comes.place in
             let there : decision_of (Flies first) q ≡ Some (record { first = first; verdict = v }) = sym h
-                ∙ ap (decision_at s es) (sym number) ∙ comes.decided in
+            ∙ ap (decision_at s es) (sym number) ∙ comes.decided in
             subst At (decision_of_parts (Flies first) q (record { first = first; verdict = v }) there).1 kept
 
 -- The same where a version names the value that an item found with it.

@@ -40,7 +40,7 @@ pub map_after-same : (cells : Cells) (es fs : List Entry) → ((key : ℕ) → o
     map_after cells es ≡ map_after cells fs
 map_after-same cells es fs same =
     λ i key. (cell_of-of_key key (cells key) es ∙ (ap (cell_of key (cells key)) (same key)
-        ∙ sym (cell_of-of_key key (cells key) fs))) i
+    ∙ sym (cell_of-of_key key (cells key) fs))) i
 
 -- a key's own entries are legal on each map that agrees at the key
 legal_key-agree : (key : ℕ) (one other : Cells) (es : List Entry) → one key ≡ other key →
@@ -53,7 +53,7 @@ legal_key-agree key one other (e ∷ es) agree h =
           (legal_key-agree key one other es agree (subst (IsLegalFrom one) (of_key-other key e es n) h))
       | inl own ↦
           let k : (e.reply ≡ reply_to e.request e.stamp (one (key_of e.request)))
-              × IsLegalFrom (map_after one (e ∷ [])) (of_key key es) =
+          × IsLegalFrom (map_after one (e ∷ [])) (of_key key es) =
           subst (IsLegalFrom one) (of_key-own key e es own) h in
           let here : one (key_of e.request) ≡ other (key_of e.request) = ap one own ∙ (agree ∙ sym (ap other own)) in
           subst (IsLegalFrom other) (sym (of_key-own key e es own)) (
@@ -73,7 +73,7 @@ legal_key key cells (e ∷ es) h =
       | inr n ↦
           subst (IsLegalFrom cells) (sym (of_key-other key e es n))
           (legal_key-agree key (map_after cells (e ∷ [])) cells es (cell_step-other key (cells key) e n)
-              (legal_key key (map_after cells (e ∷ [])) es h.1))
+          (legal_key key (map_after cells (e ∷ [])) es h.1))
     ]
 
 -- and a list is legal where each key's own entries are
@@ -82,7 +82,7 @@ pub legal_of_keys : (cells : Cells) (es : List Entry) → ((key : ℕ) → IsLeg
 legal_of_keys cells [] h = tt
 legal_of_keys cells (e ∷ es) h =
     let own : (e.reply ≡ reply_to e.request e.stamp (cells (key_of e.request)))
-        × IsLegalFrom (map_after cells (e ∷ [])) (of_key (key_of e.request) es) =
+    × IsLegalFrom (map_after cells (e ∷ [])) (of_key (key_of e.request) es) =
     subst (IsLegalFrom cells) (of_key-own (key_of e.request) e es refl) (h (key_of e.request)) in (
       own.0,
       legal_of_keys (map_after cells (e ∷ [])) es (λ key.
@@ -112,5 +112,5 @@ cell_of-of_shard shards shard key held (e ∷ es) own h =
       | inr n ↦
           ap (λ c. cell_of key c es) (cell_step-other key held e (λ q. n (own.0 ∙ (ap (λ k. k % shards) q ∙ h))))
           ∙ (cell_of-of_shard shards shard key held es own.1 h
-              ∙ sym (ap (cell_of key held) (of_shard-other shard e es n)))
+          ∙ sym (ap (cell_of key held) (of_shard-other shard e es n)))
     ]

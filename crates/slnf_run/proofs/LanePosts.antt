@@ -57,7 +57,7 @@ module _ {F A : Type 0} (s : Setting F A) (es : List Entry) where
       let q : i + 0 ≡ i = omega arith in
       subst (λ n. taken_there n places actor ≤ taken_on s es i places lane (a ∷ actors)) (sym q)
       (subst (λ b. taken_there i places b ≤ (if is_on lane a then taken_there i places a else 0) + taken_on s es
-          (i + 1) places lane actors) same
+      (i + 1) places lane actors) same
       (go (is_on lane a) (ap (is_on lane) same ∙ on)))
     where
       go : (b : Bool) → b ≡ true → taken_there i places a ≤ cond b (taken_there i places a) 0 + taken_on s es
@@ -66,10 +66,10 @@ module _ {F A : Type 0} (s : Setting F A) (es : List Entry) where
       go false w = cc
   taken_least lane places (a ∷ actors) i (suc k) actor h on =
       let r : taken_there (i + 1 + k) places actor ≤ taken_on s es (i + 1) places lane actors =
-          taken_least lane places actors (i + 1) k actor h on in
+      taken_least lane places actors (i + 1) k actor h on in
       let q : i + 1 + k ≡ i + suc k = omega arith in
       let m : taken_there (i + suc k) places actor ≤ taken_on s es (i + 1) places lane actors =
-          subst (λ n. taken_there n places actor ≤ taken_on s es (i + 1) places lane actors) q r in
+      subst (λ n. taken_there n places actor ≤ taken_on s es (i + 1) places lane actors) q r in
       omega arith
 
   -- later posts begin where their lanes have come, or further on
@@ -79,18 +79,17 @@ module _ {F A : Type 0} (s : Setting F A) (es : List Entry) where
   begins_least lane [] number base places k post h on = cc
   begins_least lane (era ∷ eras) number base places k post h on =
       elim (slice_get_either (map (post_of number places) era.actors)
-          (posts_from s es (number + 1) (base + length era.actors) (places_after s es base places era) eras) k post h)
-          [
+      (posts_from s es (number + 1) (base + length era.actors) (places_after s es base places era) eras) k post h) [
         | inl here ↦
             let r = slice_get_of_map (post_of number places) era.actors k post here in
             let at : at_lane places r.0 ≡ post.at = ap (λ (p : Post). p.at) r.2 in
             let its : at_lane places r.0 ≡ places lane =
-                at_of_lane places lane r.0 (ap (λ (p : Post). is_on lane p.actor) r.2 ∙ on) in
+            at_of_lane places lane r.0 (ap (λ (p : Post). is_on lane p.actor) r.2 ∙ on) in
             omega arith
         | inr there ↦
             let r : places lane + taken_on s es base places lane era.actors ≤ post.at =
-                begins_least lane eras (number + 1) (base + length era.actors)
-                (places_after s es base places era) there.0 post there.2 on in
+            begins_least lane eras (number + 1) (base + length era.actors)
+            (places_after s es base places era) there.0 post there.2 on in
             omega arith
       ]
 
@@ -108,8 +107,8 @@ module _ {F A : Type 0} (s : Setting F A) (es : List Entry) where
   era_later era eras i =
       let q : length era.actors + i - length era.actors ≡ i = omega arith in
       cond-false (nat_lt (length era.actors + i) (length era.actors)) 0
-          (era_of eras (length era.actors + i - length era.actors) + 1)
-          (le-ltb (length era.actors + i) (length era.actors) (omega arith))
+      (era_of eras (length era.actors + i - length era.actors) + 1)
+      (le-ltb (length era.actors + i) (length era.actors) (omega arith))
       ∙ ap (λ n. era_of eras n + 1) q
 
   -- one of an epoch and one of a later one
@@ -123,10 +122,10 @@ module _ {F A : Type 0} (s : Setting F A) (es : List Entry) where
       let on : is_on lane r.0 ≡ true = ap (λ (p : Post). is_on lane p.actor) r.2 ∙ on_p in
       let at : at_lane places r.0 ≡ places lane = at_of_lane places lane r.0 on in
       let most : taken_there (base + i) places r.0 ≤ taken_on s es base places lane era.actors =
-          taken_least lane places era.actors base i r.0 r.1 on in
+      taken_least lane places era.actors base i r.0 r.1 on in
       let far : places lane + taken_on s es base places lane era.actors ≤ q.at =
-          begins_least lane eras (number + 1) (base + length era.actors)
-          (places_after s es base places era) m q there on_q in
+      begins_least lane eras (number + 1) (base + length era.actors)
+      (places_after s es base places era) m q there on_q in
       let room : at_lane places r.0 + taken_there (base + i) places r.0 ≤ q.at = omega arith in
       let e : era_of (era ∷ eras) i ≡ 0 = era_first era eras i (slice_get_within era.actors i r.0 r.1) in
       let f : era_of (era ∷ eras) (length era.actors + m) ≡ era_of eras m + 1 = era_later era eras m in
@@ -158,9 +157,9 @@ module _ {F A : Type 0} (s : Setting F A) (es : List Entry) where
   apart lane [] number base places i k p q once h g on_p on_q = cc
   apart lane (era ∷ eras) number base places i k p q once h g on_p on_q =
       go (slice_get_either (map (post_of number places) era.actors) later i p h)
-          (slice_get_either (map (post_of number places) era.actors) later k q g)
+      (slice_get_either (map (post_of number places) era.actors) later k q g)
       (λ m n x y. apart lane eras (number + 1) (base + length era.actors) (places_after s es base places era) m n p q
-          (λ n e at. once (suc n) e at) x y on_p on_q)
+      (λ n e at. once (suc n) e at) x y on_p on_q)
     where
       later : List Post
       later = posts_from s es (number + 1) (base + length era.actors) (places_after s es base places era) eras
@@ -192,14 +191,14 @@ module _ {F A : Type 0} (s : Setting F A) (es : List Entry) where
           let a = slice_get_of_map (post_of number places) era.actors i p x in
           let b = slice_get_of_map (post_of number places) era.actors k q y in
           inl (once 0 era refl lane i k a.0 b.0 a.1 b.1 (ap (λ (p : Post). is_on lane p.actor) a.2 ∙ on_p)
-              (ap (λ (p : Post). is_on lane p.actor) b.2 ∙ on_q))
+          (ap (λ (p : Post). is_on lane p.actor) b.2 ∙ on_q))
       go (inl x) (inr y) r = inr (inl (subst (λ n. IsBefore (era ∷ eras) base i n p q) (where_at k y.0 y.1)
           (first_then lane era eras number base places i y.0 p q x y.2 on_p on_q)))
       go (inr x) (inl y) r = inr (inr (subst (λ n. IsBefore (era ∷ eras) base k n q p) (where_at i x.0 x.1)
           (first_then lane era eras number base places k x.0 q p y x.2 on_q on_p)))
       go (inr x) (inr y) r =
           subst (λ n. Apart n k) (where_at i x.0 x.1)
-              (subst (λ n. Apart (length era.actors + x.0) n) (where_at k y.0 y.1) (both x.0 y.0 (r x.0 y.0 x.2 y.2)))
+          (subst (λ n. Apart (length era.actors + x.0) n) (where_at k y.0 y.1) (both x.0 y.0 (r x.0 y.0 x.2 y.2)))
 
 -- the actors of posts
 pub actors_posted : {F A : Type 0} (s : Setting F A) (es : List Entry) (number base : ℕ) (places : ℕ → ℕ)
@@ -207,11 +206,11 @@ pub actors_posted : {F A : Type 0} (s : Setting F A) (es : List Entry) (number b
 actors_posted s es number base places [] = refl
 actors_posted s es number base places (era ∷ eras) =
     map-append (λ (p : Post). p.actor) (map (post_of number places) era.actors)
-        (posts_from s es (number + 1) (base + length era.actors) (places_after s es base places era) eras)
+    (posts_from s es (number + 1) (base + length era.actors) (places_after s es base places era) eras)
     ∙ ap (λ l. l ++ map (λ (p : Post). p.actor) (posts_from s es (number + 1) (base + length era.actors)
-        (places_after s es base places era) eras)) (own era.actors)
+    (places_after s es base places era) eras)) (own era.actors)
     ∙ ap (λ l. era.actors ++ l) (actors_posted s es (number + 1) (base + length era.actors)
-        (places_after s es base places era) eras)
+    (places_after s es base places era) eras)
   where
     own : (actors : List Actor) → map (λ (p : Post). p.actor) (map (post_of number places) actors) ≡ actors
     own [] = refl

@@ -71,7 +71,7 @@ module _ {F A : Type 0} (s : Setting F A) (es : List Entry) where
   sole lane places [] i once = inl refl
   sole lane places (a ∷ actors) i once =
       go (is_on lane a) refl (sole lane places actors (i + 1) (λ lane k l x y h g on_x on_y. let q : suc k ≡ suc l =
-          once lane (suc k) (suc l) x y h g on_x on_y in omega arith))
+      once lane (suc k) (suc l) x y h g on_x on_y in omega arith))
     where
       lone : is_on lane a ≡ true → taken_on s es (i + 1) places lane actors ≡ 0
       lone w = taken_on_none lane places actors (i + 1) (λ k b h on. let q : 0 ≡ suc k =
@@ -111,8 +111,8 @@ module _ {F A : Type 0} (s : Setting F A) (es : List Entry) where
   come_grows lane [] base places = omega arith
   come_grows lane (era ∷ eras) base places =
       let r : places lane + taken_on s es base places lane era.actors ≤ come_after s es (base + length era.actors)
-          (places_after s es base places era) eras lane =
-          come_grows lane eras (base + length era.actors) (places_after s es base places era) in
+      (places_after s es base places era) eras lane =
+      come_grows lane eras (base + length era.actors) (places_after s es base places era) in
       omega arith
 
   -- no incarnation took more than its lane has come
@@ -122,28 +122,27 @@ module _ {F A : Type 0} (s : Setting F A) (es : List Entry) where
   taken_within lane [] number base places k post h on = cc
   taken_within lane (era ∷ eras) number base places k post h on =
       elim (slice_get_either (map (post_of number places) era.actors)
-          (posts_from s es (number + 1) (base + length era.actors) (places_after s es base places era) eras) k post h)
-          [
+      (posts_from s es (number + 1) (base + length era.actors) (places_after s es base places era) eras) k post h) [
         | inl here ↦
             let r = slice_get_of_map (post_of number places) era.actors k post here in
             let on_r : is_on lane r.0 ≡ true = ap (λ (p : Post). is_on lane p.actor) r.2 ∙ on in
             let at : at_lane places r.0 ≡ places lane = at_of_lane places lane r.0 on_r in
             let most : took_there (base + k) places r.0 ≤ taken_on s es base places lane era.actors =
-                taken_least s es lane places era.actors base k r.0 r.1 on_r in
+            taken_least s es lane places era.actors base k r.0 r.1 on_r in
             let far : places lane + taken_on s es base places lane era.actors ≤ come_after s es base places
-                (era ∷ eras) lane = come_grows lane eras (base + length era.actors)
-                (places_after s es base places era) in
+            (era ∷ eras) lane = come_grows lane eras (base + length era.actors)
+            (places_after s es base places era) in
             subst (λ (p : Post). p.at + length (taken_at s es (base + k) p) ≤ come_after s es base places
-                (era ∷ eras) lane) r.2 (let z : at_lane places r.0 + took_there
-                (base + k) places r.0 ≤ come_after s es base places (era ∷ eras) lane = omega arith in z)
+            (era ∷ eras) lane) r.2 (let z : at_lane places r.0 + took_there
+            (base + k) places r.0 ≤ come_after s es base places (era ∷ eras) lane = omega arith in z)
         | inr there ↦
             let size : length (map (post_of number places) era.actors) ≡ length era.actors =
-                length-map era.actors (post_of number places) in
+            length-map era.actors (post_of number places) in
             let k_at : k ≡ length (map (post_of number places) era.actors) + there.0 = there.1 in
             let q : base + length era.actors + there.0 ≡ base + k = omega arith in
             subst (λ n. post.at + length (taken_at s es n post) ≤ come_after s es base places (era ∷ eras) lane) q
             (taken_within lane eras (number + 1) (base + length era.actors)
-                (places_after s es base places era) there.0 post there.2 on)
+            (places_after s es base places era) there.0 post there.2 on)
       ]
 
   -- A post on the lane whose incarnation took the packet.
@@ -168,7 +167,7 @@ module _ {F A : Type 0} (s : Setting F A) (es : List Entry) where
           | inr one ↦
               let at : at_lane places one.actor ≡ places lane = at_of_lane places lane one.actor one.on in
               let t : taken_on s es base places lane era.actors ≡ took_there (base + one.k) places one.actor =
-                  one.takes in
+              one.takes in
               record {
                 k = one.k;
                 post = post_of number places one.actor;
@@ -176,7 +175,7 @@ module _ {F A : Type 0} (s : Setting F A) (es : List Entry) where
                     (posts_from s es (number + 1) (base + length era.actors) (places_after s es base places era) eras)
                     one.k (post_of number places one.actor)
                     (slice_get-map (post_of number places) era.actors one.k
-                        ∙ ap (option_map (post_of number places)) one.at);
+                    ∙ ap (option_map (post_of number places)) one.at);
                 on = one.on;
                 from = (let z : at_lane places one.actor ≤ packet = omega arith in z);
                 upto = (let z : packet < at_lane places one.actor + took_there (base + one.k) places one.actor =
@@ -185,13 +184,13 @@ module _ {F A : Type 0} (s : Setting F A) (es : List Entry) where
         ]
         | inr further ↦
             let r : IsPosted lane packet (base + length era.actors)
-                (posts_from s es (number + 1) (base + length era.actors) (places_after s es base places era) eras) =
+            (posts_from s es (number + 1) (base + length era.actors) (places_after s es base places era) eras) =
             front_taken lane packet eras (number + 1) (base + length era.actors) (places_after s es base places era)
-                (λ n e at. once (suc n) e at) further high in
+            (λ n e at. once (suc n) e at) further high in
             let size : length (map (post_of number places) era.actors) ≡ length era.actors =
-                length-map era.actors (post_of number places) in
+            length-map era.actors (post_of number places) in
             let q : base + length era.actors + r.k ≡ base + (length (map (post_of number places) era.actors) + r.k) =
-                omega arith in
+            omega arith in
             record {
               k = length (map (post_of number places) era.actors) + r.k;
               post = r.post;
@@ -210,7 +209,7 @@ module _ {F A : Type 0} (s : Setting F A) (es : List Entry) where
   took_most lane i places actor on =
       let place : at_lane places actor ≡ places lane = at_of_lane places lane actor on in
       let most : took_there i places actor ≤ slice_index s.lanes lane - at_lane places actor =
-          taken_most s es lane i (at_lane places actor) actor on in
+      taken_most s es lane i (at_lane places actor) actor on in
       omega arith
 
   come_within : (lane : ℕ) (eras : List Era) (base : ℕ) (places : ℕ → ℕ) →
@@ -219,17 +218,17 @@ module _ {F A : Type 0} (s : Setting F A) (es : List Entry) where
   come_within lane [] base places once low = low
   come_within lane (era ∷ eras) base places once low =
       come_within lane eras (base + length era.actors) (places_after s es base places era)
-          (λ n e at. once (suc n) e at)
+      (λ n e at. once (suc n) e at)
       (elim (sole lane places era.actors base (once 0 era refl)) [
         | inl none ↦ (let z : places lane + taken_on s es base places lane era.actors ≤ slice_index s.lanes lane =
             omega arith in z)
         | inr one ↦
             let t : taken_on s es base places lane era.actors ≡ took_there (base + one.k) places one.actor =
-                one.takes in
+            one.takes in
             let most : took_there (base + one.k) places one.actor ≤ slice_index s.lanes lane - places lane =
-                took_most lane (base + one.k) places one.actor one.on in
+            took_most lane (base + one.k) places one.actor one.on in
             let z : places lane + taken_on s es base places lane era.actors ≤ slice_index s.lanes lane =
-                omega arith in
+            omega arith in
             z
       ])
 
@@ -237,20 +236,26 @@ module _ {F A : Type 0} (s : Setting F A) (es : List Entry) where
   in_front lane number i h =
       let p : IsTaker s es lane number i = taker s es lane number i h in
       let most : p.post.at + length (taken_at s es i p.post) ≤ come_in_all s es lane =
-          subst (λ n. p.post.at + length (taken_at s es n p.post) ≤ come_in_all s es lane) (zero-add i)
-          (taken_within lane s.eras 0 0 (λ lane. 0) i p.post p.posted p.on) in
+      subst (λ n. p.post.at + length (taken_at s es n p.post) ≤ come_in_all s es lane) (zero-add i)
+      (taken_within lane s.eras 0 0 (λ lane. 0) i p.post p.posted p.on) in
       let upto : number < p.post.at + length (taken_at s es i p.post) = p.upto in
       omega arith
 
   pub front_of : IsSound s → (lane number : ℕ) → number < come_in_all s es lane → (i : ℕ) × Took s es lane number i
   front_of sound lane number h =
       let r : IsPosted lane number 0 (posts_of s es) =
-          front_taken lane number s.eras 0 0 (λ lane. 0) sound.lanes_once (omega arith) h in
+      front_taken lane number s.eras 0 0 (λ lane. 0) sound.lanes_once (omega arith) h in
       let upto : number < r.post.at + length (taken_at s es r.k r.post) =
-          subst (λ n. number < r.post.at + length (taken_at s es n r.post)) (zero-add r.k) r.upto in
-      (r.k, (r.post, r.at, and_from (is_on lane r.post.actor) (has_item number (taken_at s es r.k r.post)) r.on
-          (range_has_item number r.post.at (length (taken_at s es r.k r.post)) (taken_at s es r.k r.post)
-          (taken_in_row s es lane r.k r.post r.on) r.from upto)))
+      subst (λ n. number < r.post.at + length (taken_at s es n r.post)) (zero-add r.k) r.upto in (
+        r.k,
+        (
+          r.post,
+          r.at,
+          and_from (is_on lane r.post.actor) (has_item number (taken_at s es r.k r.post)) r.on
+              (range_has_item number r.post.at (length (taken_at s es r.k r.post)) (taken_at s es r.k r.post)
+              (taken_in_row s es lane r.k r.post r.on) r.from upto),
+        ),
+      )
 
 module _ {F A : Type 0} (s : Setting F A) (j : List Entry) (sound : IsSound s) (run : IsRun s j) where
   is_left_of : (lane number : ℕ) → ((number < come_in_all s j lane) × (is_left (verdict_of s j lane number) ≡ false))
@@ -260,8 +265,11 @@ module _ {F A : Type 0} (s : Setting F A) (j : List Entry) (sound : IsSound s) (
         let r : (i : ℕ) × Took s j lane number i = front_of s j sound lane number before in
         inl (before, not_left (verdict_of s j lane number) (λ h. nobody_left s j sound run lane number h r.0 r.1))
     | inr behind ↦
-        inr (behind, ap is_left (left_of_nobody s j lane number (λ i h. let l : number < come_in_all s j lane =
-            in_front s j lane number i h in omega arith)))
+        inr (
+          behind,
+          ap is_left (left_of_nobody s j lane number (λ i h. let l : number < come_in_all s j lane =
+              in_front s j lane number i h in omega arith)),
+        )
   ]
 
   left_counted : (lane a n : ℕ) → left_of (map (verdict_of s j lane) (range_with_len a n))
@@ -269,16 +277,16 @@ module _ {F A : Type 0} (s : Setting F A) (j : List Entry) (sound : IsSound s) (
   left_counted lane a zero = omega arith
   left_counted lane a (suc n) =
       counted_next (is_left (verdict_of s j lane a)) (come_in_all s j lane) a n
-          (left_of (map (verdict_of s j lane) (range_with_len (a + 1) n))) (left_counted lane (a + 1) n)
-          (is_left_of lane a)
+      (left_of (map (verdict_of s j lane) (range_with_len (a + 1) n))) (left_counted lane (a + 1) n)
+      (is_left_of lane a)
 
   left_from : (lane : ℕ) (counts : List ℕ) → left_in (verdicts_from s j lane counts) ≡ behind_from s j lane counts
   left_from lane [] = refl
   left_from lane (count ∷ counts) =
       let r : left_in (verdicts_from s j (lane + 1) counts) ≡ behind_from s j (lane + 1) counts =
-          left_from (lane + 1) counts in
+      left_from (lane + 1) counts in
       let q : left_of (map (verdict_of s j lane) (range_with_len 0 count)) ≡ count - (come_in_all s j lane - 0) =
-          left_counted lane 0 count in
+      left_counted lane 0 count in
       omega arith
 
   -- What was taken of each lane is a front, and what is left is the rest.

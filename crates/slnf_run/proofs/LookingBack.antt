@@ -50,7 +50,7 @@ pub own_looking : {F A : Type 0} (s : Scene F A) (looks_back : F → Verdict →
     ≡ looking_back looks_back es number first verdict) → HasOwnPlaces s es
 own_looking {F = F} s looks_back es place_is number e place decision at decided there =
     go (looks_back decision.first decision.verdict)
-        (ap (slice_get es) (sym (place_is es number decision.first decision.verdict)) ∙ there)
+    (ap (slice_get es) (sym (place_is es number decision.first decision.verdict)) ∙ there)
   where
     go : (b : Bool) → slice_get es (cond b (first_of_own es number (slice_get es number)) number) ≡ Some place →
         (place.incarnation ≡ e.incarnation) × (place.item ≡ e.item)
@@ -58,11 +58,11 @@ own_looking {F = F} s looks_back es place_is number e place decision at decided 
         (ap (λ (f : Entry). f.incarnation) same, ap (λ (f : Entry). f.item) same)
     go true h =
         let first : slice_get es (first_of e.incarnation e.item es) ≡ Some place =
-            ap (λ o. slice_get es (first_of_own es number o)) (sym at) ∙ h in
+        ap (λ o. slice_get es (first_of_own es number o)) (sym at) ∙ h in
         let own : is_of e.incarnation e.item place ≡ true =
-            first_is_own e.incarnation e.item es number e place at (is_of-itself e) first in
+        first_is_own e.incarnation e.item es number e place at (is_of-itself e) first in
         let parts : ((place.incarnation == e.incarnation) ≡ true) × ((place.item == e.item) ≡ true) =
-            and_parts (place.incarnation == e.incarnation) (place.item == e.item) own in
+        and_parts (place.incarnation == e.incarnation) (place.item == e.item) own in
         (eqb-true place.incarnation e.incarnation parts.0, eqb-true place.item e.item parts.1)
 
 -- how a packet comes at an entry
@@ -76,8 +76,8 @@ pub comes_so : {F A : Type 0} (s : Scene F A) (looks_back : F → Verdict → Bo
     (decided_at (s.machine e.incarnation) ((s.machine e.incarnation).goes flight e.reply))) first o
 comes_so {F = F} s looks_back es before later e cells first flight place_is split next o comes =
     by o comes (newly ((s.machine e.incarnation).decided flight)
-        (decided_at (s.machine e.incarnation) ((s.machine e.incarnation).goes flight e.reply)))
-        (decision_here s es before later e cells first flight split next)
+    (decided_at (s.machine e.incarnation) ((s.machine e.incarnation).goes flight e.reply)))
+    (decision_here s es before later e cells first flight split next)
   where
     place_as : (d : ℕ) (v : Verdict) (b : Bool) → looks_back first v ≡ b → s.place es d first v
         ≡ cond b (first_of_own es d (slice_get es d)) d
@@ -89,15 +89,18 @@ comes_so {F = F} s looks_back es before later e cells first flight place_is spli
     some v placed now here false w =
         let number : placed.d ≡ length before = sym (place_as placed.d v false w) ∙ placed.place in
         let there : decision_of (Flies first) now ≡ Some (record { first = first; verdict = v }) = sym here
-            ∙ ap (decision_at s es) (sym number) ∙ placed.decided in
+        ∙ ap (decision_at s es) (sym number) ∙ placed.decided in
         inl ((decision_of_parts (Flies first) now (record { first = first; verdict = v }) there).1, w)
     some v placed now here true w =
         let first_decider : first_of placed.decider.incarnation placed.decider.item es ≡ length before =
-            ap (first_of_own es placed.d) (sym placed.at) ∙ sym (place_as placed.d v true w) ∙ placed.place in
+        ap (first_of_own es placed.d) (sym placed.at) ∙ sym (place_as placed.d v true w) ∙ placed.place in
         let first_e : first_of e.incarnation e.item es ≡ length before =
-            subst₂ (λ i k. first_of i k es ≡ length before) placed.incarnation placed.item first_decider in
-        inr (none_before e.incarnation e.item before (e ∷ later)
-            (subst (λ xs. first_of e.incarnation e.item xs ≡ length before) split first_e), w)
+        subst₂ (λ i k. first_of i k es ≡ length before) placed.incarnation placed.item first_decider in
+        inr (
+          none_before e.incarnation e.item before (e ∷ later)
+              (subst (λ xs. first_of e.incarnation e.item xs ≡ length before) split first_e),
+          w,
+        )
 
     none : ((d : ℕ) (x : Decision F) → decision_at s es d ≡ Some x → s.place es d x.first x.verdict ≡ length before →
         ⊥) → (v : Verdict) → decision_at s es (length before) ≡ Some (record { first = first; verdict = v }) →
@@ -131,6 +134,6 @@ pub explained_looking : {F A C : Type 0} (s : Scene F A) (looks_back : F → Ver
 explained_looking s looks_back box es Inv place_is steady legal paths at_first at_entry Same same =
     explained_by s box es Inv steady (own_looking s looks_back es place_is) legal paths at_first
     (λ before later e first flight c split next inv o comes.
-        at_entry before later e first flight c split next inv o comes
-        (comes_so s looks_back es before later e (map_after empty before) first flight place_is split next o comes))
-        Same same
+    at_entry before later e first flight c split next inv o comes
+    (comes_so s looks_back es before later e (map_after empty before) first flight place_is split next o comes))
+    Same same

@@ -65,7 +65,7 @@ pub batch_until : (n item b : ℕ) (offers : List Offer) → Rises n offers →
 batch_until n item b [] h k = cc
 batch_until n item b (offer ∷ offers) h k =
     go (offer.item == item) refl (nat_le offer.batch b) refl k (least_until offer.batch item b offers h.1)
-        (batch_until offer.batch item b offers h.1)
+    (batch_until offer.batch item b offers h.1)
   where
     rest : List Offer
     rest = filter (λ offer. nat_le offer.batch b) offers
@@ -127,9 +127,15 @@ split_of_part incarnation (f ∷ m) [] rest e h =
           (split_of_part incarnation m [] rest e (sym (part_of-other incarnation f m n) ∙ h))
       | inl mine ↦
           let q : (f ≡ e) × (part_of incarnation m ≡ rest) =
-              cons_parts f e (part_of incarnation m) rest (sym (part_of-own incarnation f m mine) ∙ h) in
-          record { before = []; later = m; whole = ap (λ x. x ∷ m) q.0; part = refl; mine =
-              ap (λ x. x.incarnation) (sym q.0) ∙ mine }
+          cons_parts f e (part_of incarnation m) rest (sym (part_of-own incarnation f m mine) ∙ h) in
+          record {
+            before = [];
+            later = m;
+            whole = ap (λ x. x ∷ m) q.0;
+            part = refl;
+            mine =
+                ap (λ x. x.incarnation) (sym q.0) ∙ mine;
+          }
     ]
 split_of_part incarnation (f ∷ m) (x ∷ own) rest e h =
     elim (cases_eq f.incarnation incarnation) [
@@ -137,7 +143,7 @@ split_of_part incarnation (f ∷ m) (x ∷ own) rest e h =
           (split_of_part incarnation m (x ∷ own) rest e (sym (part_of-other incarnation f m n) ∙ h))
       | inl mine ↦
           let q : (f ≡ x) × (part_of incarnation m ≡ own ++ e ∷ rest) =
-              cons_parts f x (part_of incarnation m) (own ++ e ∷ rest) (sym (part_of-own incarnation f m mine) ∙ h) in
+          cons_parts f x (part_of incarnation m) (own ++ e ∷ rest) (sym (part_of-own incarnation f m mine) ∙ h) in
           let k : IsPartSplit incarnation m own e = split_of_part incarnation m own rest e q.1 in
           record {
             before = f ∷ k.before;
@@ -166,7 +172,7 @@ module _ {F A : Type 0} (s : Setting F A) (j : List Entry) (run : IsRun s j) whe
       go false w took flies (inr done) =
           let ended : HasEnded (stand_of s.scene i k j) = all_ended_at s i j k (offers_at s i post) done.1 took in
           let now : stand_of s.scene i k j ≡ Flies f =
-              ap (stand_after (s.scene.machine i) (s.scene.begins i k)) (sym (own_in_part i k j)) ∙ flies in
+          ap (stand_after (s.scene.machine i) (s.scene.begins i k)) (sym (own_in_part i k j)) ∙ flies in
           absurd (subst HasEnded now ended)
 
   -- a packet in whose batch the last entry isn't has ended before that
@@ -182,12 +188,12 @@ module _ {F A : Type 0} (s : Setting F A) (j : List Entry) (run : IsRun s j) whe
             let w : IsPartSplit i j front l = split_of_part i j front [] l split in
             let earlier : EarlierEnded s i w.before (batch_of l.item offers) offers =
             subst (λ n. EarlierEnded s n w.before (batch_of l.item (offers_at s n post)) (offers_at s n post)) w.mine
-                (run.by_batch w.before w.later l post w.whole (ap (slice_get (posts_of s j)) w.mine ∙ posted)) in
+            (run.by_batch w.before w.later l post w.whole (ap (slice_get (posts_of s j)) w.mine ∙ posted)) in
             let ended : HasEnded (stand_of s.scene i k w.before) =
-                earlier_ended_at s i w.before (batch_of l.item offers) k offers earlier offered above.1 in
+            earlier_ended_at s i w.before (batch_of l.item offers) k offers earlier offered above.1 in
             let now : stand_of s.scene i k w.before ≡ Flies f =
-                ap (stand_after (s.scene.machine i) (s.scene.begins i k)) (sym (own_in_part i k w.before)
-                ∙ ap (of_item k) w.part) ∙ flies in
+            ap (stand_after (s.scene.machine i) (s.scene.begins i k)) (sym (own_in_part i k w.before)
+            ∙ ap (of_item k) w.part) ∙ flies in
             absurd (subst HasEnded now ended)
       ]
 
@@ -222,17 +228,25 @@ module _ {F A : Type 0} (s : Setting F A) (j : List Entry) (run : IsRun s j) whe
       go None w = let no : false ≡ true = ap (λ o. has_item k (offers_until o offers)) (sym w) ∙ until in absurd (cc)
       go (Some l) w =
           let up : has_item k (filter (λ offer. nat_le offer.batch (batch_of l.item offers)) offers) ≡ true =
-              ap (λ o. has_item k (offers_until o offers)) (sym w) ∙ until in
+          ap (λ o. has_item k (offers_until o offers)) (sym w) ∙ until in
           let most : batch_of k offers ≤ batch_of l.item offers =
-              batch_until 0 k (batch_of l.item offers) offers rises up in
+          batch_until 0 k (batch_of l.item offers) offers rises up in
           let r : (front : List Entry) × (part_of i j ≡ front ++ l ∷ []) = last_split (part_of i j) l w in
           let size : length (part_of i j) ≡ length r.0 + 1 = ap length r.1 ∙ length_push r.0 l in
           let n : length (part_of i j) - 1 ≡ length r.0 = omega arith in
           let counts : take (length (part_of i j) - 1) (part_of i j) ≡ r.0 = ap (λ n. take n (part_of i j)) n
-              ∙ ap (take (length r.0)) r.1 ∙ take-append_seam r.0 (l ∷ []) in
+          ∙ ap (take (length r.0)) r.1 ∙ take-append_seam r.0 (l ∷ []) in
           let least : batch_of l.item offers ≤ batch_of k offers =
           flies_late i k post f l r.0 posted (has_offered k offers (has_more k (batch_of l.item offers) offers up))
-              r.1 (ap (λ xs. stand_after (s.scene.machine i) (s.scene.begins i k) (of_item k xs)) (sym counts)
-              ∙ by_front) in
-          record { post = post; posted = posted; stopped = stopped; last = l; at_last = w; batch =
-              omega arith; under_way = subst HasEnded flies }
+          r.1 (ap (λ xs. stand_after (s.scene.machine i) (s.scene.begins i k) (of_item k xs)) (sym counts)
+          ∙ by_front) in
+          record {
+            post = post;
+            posted = posted;
+            stopped = stopped;
+            last = l;
+            at_last = w;
+            batch =
+                omega arith;
+            under_way = subst HasEnded flies;
+          }

@@ -35,9 +35,9 @@ same_first : (x y : Entry) (xs ys : List Entry) → Pairs Precedes (x ∷ xs) �
     ((shard : ℕ) → of_shard shard (x ∷ xs) ≡ of_shard shard (y ∷ ys)) → x ≡ y
 same_first x y xs ys h k same =
     let one : x ∷ of_shard x.shard xs ≡ of_shard x.shard (y ∷ ys) = sym (of_shard-own x.shard x xs refl)
-        ∙ same x.shard in
+    ∙ same x.shard in
     let two : y ∷ of_shard y.shard ys ≡ of_shard y.shard (x ∷ xs) = sym (of_shard-own y.shard y ys refl)
-        ∙ sym (same y.shard) in
+    ∙ sym (same y.shard) in
     elim (cases_eq y.shard x.shard) [
       | inl q ↦ (cons_parts x y (of_shard x.shard xs) (of_shard x.shard ys) (one ∙ of_shard-own x.shard y ys q)).0
       | inr n ↦
@@ -57,7 +57,7 @@ same_of_parts (x ∷ xs) [] h k same =
 same_of_parts (x ∷ xs) (y ∷ ys) h k same =
     let first : x ≡ y = same_first x y xs ys h k same in
     ap₂ (λ (z : Entry) (zs : List Entry). z ∷ zs) first
-        (same_of_parts xs ys h.1 k.1 (λ shard. rest first shard (same shard)))
+    (same_of_parts xs ys h.1 k.1 (λ shard. rest first shard (same shard)))
   where
     rest : x ≡ y → (shard : ℕ) → of_shard shard (x ∷ xs) ≡ of_shard shard (y ∷ ys) → of_shard shard xs
         ≡ of_shard shard ys
@@ -65,10 +65,10 @@ same_of_parts (x ∷ xs) (y ∷ ys) h k same =
       | inl own ↦
           (cons_parts x y (of_shard shard xs) (of_shard shard ys)
           (sym (of_shard-own shard x xs own) ∙ (q ∙ of_shard-own shard y ys (ap (λ (e : Entry). e.shard) (sym first)
-              ∙ own)))).1
+          ∙ own)))).1
       | inr n ↦
           sym (of_shard-other shard x xs n) ∙ (q ∙ of_shard-other shard y ys
-              (λ r. n (ap (λ (e : Entry). e.shard) first ∙ r)))
+          (λ r. n (ap (λ (e : Entry). e.shard) first ∙ r)))
     ]
 
 -- a shard that no entry has has no part
@@ -85,7 +85,7 @@ pub merged_is_in_order : (shards : ℕ) (j m : List Entry) → Pairs (λ e f. e.
 merged_is_in_order shards j m rise within ordered inside same =
     same_of_parts j (in_order m) (pairs_of_order j ordered) (in_order-pairs m (apart_of_rises m rise))
     (λ shard. parts shard ∙ sym (filter-in_order (λ e. e.shard == shard) m
-        (rises_of_number (λ e. e.shard) shard m rise)))
+    (rises_of_number (λ e. e.shard) shard m rise)))
   where
     parts : (shard : ℕ) → of_shard shard j ≡ of_shard shard m
     parts shard = elim (cases_lt shard shards) [
@@ -99,6 +99,6 @@ pub in_order_by_parts : (m n : List Entry) → Pairs (λ e f. e.shard ≡ f.shar
     in_order m ≡ in_order n
 in_order_by_parts m n one two same =
     same_of_parts (in_order m) (in_order n) (in_order-pairs m (apart_of_rises m one))
-        (in_order-pairs n (apart_of_rises n two))
+    (in_order-pairs n (apart_of_rises n two))
     (λ shard. filter-in_order (λ e. e.shard == shard) m (rises_of_number (λ e. e.shard) shard m one)
     ∙ (same shard ∙ sym (filter-in_order (λ e. e.shard == shard) n (rises_of_number (λ e. e.shard) shard n two))))

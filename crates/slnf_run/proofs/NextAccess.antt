@@ -27,7 +27,7 @@ pub own_split : (before later : List Entry) (e : Entry) → own_of e.incarnation
 own_split before later e =
     filter-append (is_of e.incarnation e.item) before (e ∷ later)
     ∙ ap (λ b. own_of e.incarnation e.item before
-        ++ cond b (e ∷ own_of e.incarnation e.item later) (own_of e.incarnation e.item later)) (is_of-itself e)
+    ++ cond b (e ∷ own_of e.incarnation e.item later) (own_of e.incarnation e.item later)) (is_of-itself e)
 
 -- the map after one more entry
 pub map_after-push : (es : List Entry) (e : Entry) → map_after empty (es ++ e ∷ [])
@@ -40,7 +40,7 @@ pub is_next : {F A : Type 0} (s : Scene F A) (es : List Entry) → IsLegal es �
     × IsNext s (map_after empty before) (own_of e.incarnation e.item before) e first flight
 is_next {F = F} s es legal paths before later e split =
     go (s.begins i k) refl (stand_after m (s.begins i k) own) refl
-        (path-back m (s.begins i k) own (e ∷ own_of i k later) path).0
+    (path-back m (s.begins i k) own (e ∷ own_of i k later) path).0
   where
     i : ℕ
     i = e.incarnation

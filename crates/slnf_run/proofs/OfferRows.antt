@@ -77,12 +77,16 @@ front_until n b [] h = (0, refl)
 front_until n b (offer ∷ offers) h = elim (leb_tells offer.batch b) [
   | inl below ↦
       let r : (k : ℕ) × (filter (λ offer. nat_le offer.batch b) offers ≡ take k offers) =
-          front_until offer.batch b offers h.1 in
-      (suc r.0, ap (λ c. cond c (offer ∷ filter (λ offer. nat_le offer.batch b) offers)
-          (filter (λ offer. nat_le offer.batch b) offers)) below.0 ∙ ap (λ l. offer ∷ l) r.1)
-  | inr above ↦
-      (0, ap (λ c. cond c (offer ∷ filter (λ offer. nat_le offer.batch b) offers)
-          (filter (λ offer. nat_le offer.batch b) offers)) above.0 ∙ none_below offer.batch b offers h.1 above.1)
+      front_until offer.batch b offers h.1 in (
+        suc r.0,
+        ap (λ c. cond c (offer ∷ filter (λ offer. nat_le offer.batch b) offers)
+            (filter (λ offer. nat_le offer.batch b) offers)) below.0 ∙ ap (λ l. offer ∷ l) r.1,
+      )
+  | inr above ↦ (
+    0,
+    ap (λ c. cond c (offer ∷ filter (λ offer. nat_le offer.batch b) offers)
+        (filter (λ offer. nat_le offer.batch b) offers)) above.0 ∙ none_below offer.batch b offers h.1 above.1,
+  )
 ]
 
 take_all : {X : Type 0} (xs : List X) → xs ≡ take (length xs) xs
@@ -118,14 +122,14 @@ pub taken_range : (actor : Actor) (part : List Entry) (limit : ℕ) (first : ℕ
 taken_range actor part limit first at n =
     let offers : List Offer = batched limit first 0 0 [] (range_with_len at n) in
     let f : (k : ℕ) × (taken_of actor part offers ≡ take k offers) =
-        taken_front actor part 0 offers (rises_batched limit first 0 0 [] (range_with_len at n)) in
+    taken_front actor part 0 offers (rises_batched limit first 0 0 [] (range_with_len at n)) in
     let r : (m : ℕ) × (take f.0 (range_with_len at n) ≡ range_with_len at m) = take_of_range f.0 at n in
     let items : items_of (taken_of actor part offers) ≡ range_with_len at r.0 =
     ap items_of f.1 ∙ items_of-take f.0 offers ∙ ap (take f.0)
-        (items_batched limit first 0 0 [] (range_with_len at n)) ∙ r.1 in
+    (items_batched limit first 0 0 [] (range_with_len at n)) ∙ r.1 in
     let size : length (taken_of actor part offers) ≡ r.0 =
-        sym (length-map (taken_of actor part offers) (λ offer. offer.item)) ∙ ap length items
-        ∙ length-range_with_len at r.0 in
+    sym (length-map (taken_of actor part offers) (λ offer. offer.item)) ∙ ap length items
+    ∙ length-range_with_len at r.0 in
     items ∙ ap (range_with_len at) (sym size)
 
 -- an item is among these by its number alone

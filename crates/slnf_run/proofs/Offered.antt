@@ -36,10 +36,14 @@ stopped_before s es i k post offered missed = go (is_stopped post.actor part) re
 
     before : (last : Option Entry) → last_of part ≡ last → (has_item k (offers_until last offers) ≡ true → ⊥) → Before
     before None w miss = inl (none_last part w)
-    before (Some e) w miss = inr (e, w, elim (leb_tells (batch_of k offers) (batch_of e.item offers)) [
-      | inl at_most ↦ absurd (miss (offered_until k (batch_of e.item offers) offers offered at_most.1))
-      | inr above ↦ above.1
-    ])
+    before (Some e) w miss = inr (
+      e,
+      w,
+      elim (leb_tells (batch_of k offers) (batch_of e.item offers)) [
+        | inl at_most ↦ absurd (miss (offered_until k (batch_of e.item offers) offers offered at_most.1))
+        | inr above ↦ above.1
+      ],
+    )
 
     go : (b : Bool) → is_stopped post.actor part ≡ b →
         (has_item k (cond b (offers_until (last_of part) offers) offers) ≡ true → ⊥) → WasStoppedBefore s es i k post

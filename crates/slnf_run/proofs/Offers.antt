@@ -30,13 +30,13 @@ pub offers_of-rising : {F A : Type 0} (s : Setting F A) (incarnation at : ℕ) (
     RisingFrom 0 (offers_of s incarnation at actor)
 offers_of-rising s incarnation at actor =
     elim (actor.lane) as (λ lane. RisingFrom 0 (offers_of s incarnation at
-        (record { lane = lane; quota = actor.quota; stop = actor.stop }))) [
+    (record { lane = lane; quota = actor.quota; stop = actor.stop }))) [
       | None ↦ batched-rising 1 (λ item. first_key_of (s.scene.machine incarnation) (s.scene.begins incarnation item))
           0 0 [] 0 s.sweep_items
       | Some lane ↦
           rising_lower 0 at _ (omega arith) (batched-rising s.batch
-              (λ item. first_key_of (s.scene.machine incarnation) (s.scene.begins incarnation item)) 0 0 [] at
-              (within_quota actor.quota (slice_index s.lanes lane - at)))
+          (λ item. first_key_of (s.scene.machine incarnation) (s.scene.begins incarnation item)) 0 0 [] at
+          (within_quota actor.quota (slice_index s.lanes lane - at)))
     ]
 
 -- The offer is one of these, and its item tells its batch among them.
@@ -62,7 +62,7 @@ rising_known from (offer ∷ offers) h = (
         offered = inr k.offered;
         batch = cond-false (offer.item == later.item) offer.batch (batch_of later.item offers)
             (ne_eqb offer.item later.item (λ e. let b : offer.item + 1 ≤ later.item = k.not_before in omega arith))
-                ∙ k.batch;
+            ∙ k.batch;
       })
       offers (rising_known (offer.item + 1) offers h.1),
 )

@@ -34,10 +34,10 @@ module _ {F A : Type 0} (s : Setting F A) (es : List Entry) where
   pub taker : (lane number i : ℕ) → Took s es lane number i → IsTaker lane number i
   taker lane number i h =
       let parts : (is_on lane h.0.actor ≡ true) × (has_item number (taken_at s es i h.0) ≡ true) =
-          and_parts (is_on lane h.0.actor) (has_item number (taken_at s es i h.0)) h.2 in
+      and_parts (is_on lane h.0.actor) (has_item number (taken_at s es i h.0)) h.2 in
       let range : (h.0.at ≤ number) × (number < h.0.at + length (taken_at s es i h.0)) =
-          has_in_range number h.0.at (length (taken_at s es i h.0)) (taken_at s es i h.0)
-          (taken_in_row s es lane i h.0 parts.0) parts.1 in
+      has_in_range number h.0.at (length (taken_at s es i h.0)) (taken_at s es i h.0)
+      (taken_in_row s es lane i h.0 parts.0) parts.1 in
       record { post = h.0; posted = h.1; on = parts.0; took = parts.1; from = range.0; upto = range.1 }
 
   -- of an earlier incarnation the packets come first
@@ -69,8 +69,8 @@ module _ {F A : Type 0} (s : Setting F A) (es : List Entry) where
   among_none lane number base (post ∷ posts) none =
       go (takes s es base post lane number) refl
       (among_none lane number (base + 1) posts (λ k p h t.
-          none (suc k) p h (let q : base + 1 + k ≡ base + suc k = omega arith in
-          subst (λ n. takes s es n p lane number ≡ true) q t)))
+      none (suc k) p h (let q : base + 1 + k ≡ base + suc k = omega arith in
+      subst (λ n. takes s es n p lane number ≡ true) q t)))
     where
       go : (b : Bool) → takes s es base post lane number ≡ b → verdict_among s es lane number (base + 1) posts
           ≡ Left → cond b (verdict_by s es base post number) (verdict_among s es lane number (base + 1) posts) ≡ Left
@@ -87,20 +87,20 @@ module _ {F A : Type 0} (s : Setting F A) (es : List Entry) where
   among_taker lane number base zero (p ∷ posts) post at took only =
       let same : p ≡ post = same_Some p post at in
       subst (λ n. cond (takes s es base p lane number) (verdict_by s es base p number)
-          (verdict_among s es lane number (base + 1) posts) ≡ verdict_by s es n post number) (sym (add-zero base))
+      (verdict_among s es lane number (base + 1) posts) ≡ verdict_by s es n post number) (sym (add-zero base))
       (ap (λ b. cond b (verdict_by s es base p number) (verdict_among s es lane number (base + 1) posts))
-          (ap (λ p. takes s es base p lane number) same
-          ∙ subst (λ n. takes s es n post lane number ≡ true) (add-zero base) took)
+      (ap (λ p. takes s es base p lane number) same
+      ∙ subst (λ n. takes s es n post lane number ≡ true) (add-zero base) took)
       ∙ ap (λ p. verdict_by s es base p number) same)
   among_taker lane number base (suc k) (p ∷ posts) post at took only =
       let q : base + 1 + k ≡ base + suc k = omega arith in
       go (takes s es base p lane number) refl
       (among_taker lane number (base + 1) k posts post at
-          (subst (λ n. takes s es n post lane number ≡ true) (sym q) took)
+      (subst (λ n. takes s es n post lane number ≡ true) (sym q) took)
       (λ n r h t.
       let m : base + 1 + n ≡ base + suc n = omega arith in
       let same : base + suc n ≡ base + suc k = only (suc n) r h
-          (subst (λ n. takes s es n r lane number ≡ true) m t) in
+      (subst (λ n. takes s es n r lane number ≡ true) m t) in
       omega arith))
     where
       go : (b : Bool) → takes s es base p lane number ≡ b → verdict_among s es lane number (base + 1) posts
@@ -109,7 +109,7 @@ module _ {F A : Type 0} (s : Setting F A) (es : List Entry) where
           ≡ verdict_by s es (base + suc k) post number
       go true w r =
           let same : base + 0 ≡ base + suc k = only 0 p refl
-              (subst (λ n. takes s es n p lane number ≡ true) (sym (add-zero base)) w) in
+          (subst (λ n. takes s es n p lane number ≡ true) (sym (add-zero base)) w) in
           absurd (omega arith)
       go false w r = let q : base + 1 + k ≡ base + suc k = omega arith in r
           ∙ ap (λ n. verdict_by s es n post number) q
@@ -117,15 +117,15 @@ module _ {F A : Type 0} (s : Setting F A) (es : List Entry) where
   pub left_of_nobody : (lane number : ℕ) → NobodyTook s es lane number → verdict_of s es lane number ≡ Left
   left_of_nobody lane number none =
       among_none lane number 0 (posts_of s es) (λ k p h t.
-          none k (p, h, subst (λ n. takes s es n p lane number ≡ true) (zero-add k) t))
+      none k (p, h, subst (λ n. takes s es n p lane number ≡ true) (zero-add k) t))
 
   pub verdict_of_taker : IsSound s → (lane number i : ℕ) → (h : Took s es lane number i) → verdict_of s es lane number
       ≡ verdict_by s es i h.0 number
   verdict_of_taker sound lane number i h =
       among_taker lane number 0 i (posts_of s es) h.0 h.1
-          (subst (λ n. takes s es n h.0 lane number ≡ true) (sym (zero-add i)) h.2)
+      (subst (λ n. takes s es n h.0 lane number ≡ true) (sym (zero-add i)) h.2)
       (λ n p at t. ap (λ x. 0 + x) (one_taker sound lane number n i
-          (p, at, subst (λ n. takes s es n p lane number ≡ true) (zero-add n) t) h))
+      (p, at, subst (λ n. takes s es n p lane number ≡ true) (zero-add n) t) h))
       ∙ ap (λ n. verdict_by s es n h.0 number) (zero-add i)
 
   pub taken_by_entry : IsRun s es → (lane t : ℕ) (e : Entry) → slice_get es t ≡ Some e →
@@ -148,9 +148,9 @@ module _ {F A : Type 0} (s : Setting F A) (es : List Entry) where
   given_to sound run lane number i h =
       let p : IsTaker lane number i = taker lane number i h in
       let parts : (is_on lane h.0.actor ≡ true) × (has_item number (taken_at s es i h.0) ≡ true) =
-          and_parts (is_on lane h.0.actor) (has_item number (taken_at s es i h.0)) h.2 in
+      and_parts (is_on lane h.0.actor) (has_item number (taken_at s es i h.0)) h.2 in
       subst (IsGiven s es i number) (sym (verdict_of_taker sound lane number i h))
-          (given_by s es sound run lane i number h.0 h.1 parts.0 parts.1)
+      (given_by s es sound run lane i number h.0 h.1 parts.0 parts.1)
 
   -- what is taken isn't left
   pub nobody_left : IsSound s → IsRun s es → (lane number : ℕ) → verdict_of s es lane number ≡ Left →
@@ -185,14 +185,14 @@ module _ {F A : Type 0} (s : Setting F A) (es : List Entry) where
       back w =
           let same : w.post ≡ h.0 = same_Some w.post h.0 (sym w.posted ∙ h.1) in
           verdict_of_taker sound lane number i h ∙ lost_by i number h.0
-              (subst (λ (post : Post). HasEnded (stand_by s es i post number) → ⊥) same w.under_way)
+          (subst (λ (post : Post). HasEnded (stand_by s es i post number) → ⊥) same w.under_way)
 
   -- a packet that has come to its verdict wasn't under way at its instance's stop
   pub come_or_under_way : (i k : ℕ) (v : Verdict) → HasCome s es i k v → WasInHand s es i k → ⊥
   come_or_under_way i k v come hand =
       let same : come.post ≡ hand.post = same_Some come.post hand.post (sym come.posted ∙ hand.posted) in
       let ended : stand_by s es i hand.post k ≡ Ends (Some v) = ap (λ p. stand_by s es i p k) (sym same)
-          ∙ come.comes in
+      ∙ come.comes in
       hand.under_way (subst HasEnded (sym ended) tt)
 
 -- What each run of a sound setting tells of its packets.

@@ -61,23 +61,23 @@ one_decider s es number e d b v w steady own at h k =
     let r : IsVisit s es number e d v = is_visit s es number e d v h in
     let q : IsVisit s es number e b w = is_visit s es number e b w k in
     let mine : (e.incarnation ≡ r.decider.incarnation) × (e.item ≡ r.decider.item) =
-        own_visit s es number e d v own at r in
+    own_visit s es number e d v own at r in
     let its : (e.incarnation ≡ q.decider.incarnation) × (e.item ≡ q.decider.item) =
-        own_visit s es number e b w own at q in
+    own_visit s es number e b w own at q in
     once s es d b r.decision q.decision r.decider q.decider steady r.whole q.whole (sym its.0 ∙ mine.0) (sym its.1
-        ∙ mine.1)
+    ∙ mine.1)
 
 pub one_visit : {F A : Type 0} (s : Scene F A) (es : List Entry) (number : ℕ) (e : Entry) (d : ℕ) (v : Visit A) →
     ((i : ℕ) → IsSteady (s.machine i)) → HasOwnPlaces s es → slice_get es number ≡ Some e → visit_by s es number e d
     ≡ Some v → visits_of s es number e ≡ map removal (s.removals e) ++ v ∷ []
 one_visit s es number e d v steady own at h =
     let within : d < length es = let r : IsVisit s es number e d v = is_visit s es number e d v h in
-        slice_get_within es d r.decider r.whole.at in
+    slice_get_within es d r.decider r.whole.at in
     ap (λ ys. map removal (s.removals e) ++ ys) (picks_one (visit_by s es number e) 0 (length es) d v (omega arith)
-        (omega arith) h (λ b w k. one_decider s es number e d b v w steady own at h k))
+    (omega arith) h (λ b w k. one_decider s es number e d b v w steady own at h k))
 
 pub no_visit : {F A : Type 0} (s : Scene F A) (es : List Entry) (number : ℕ) (e : Entry) →
     ((d : ℕ) → visit_by s es number e d ≡ None) → visits_of s es number e ≡ map removal (s.removals e) ++ []
 no_visit s es number e none =
     ap (λ ys. map removal (s.removals e) ++ ys) (picks_none (visit_by s es number e) 0 (length es)
-        (λ d low high. none d))
+    (λ d low high. none d))

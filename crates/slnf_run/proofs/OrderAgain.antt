@@ -55,8 +55,10 @@ grown_of_splits Q es (e ∷ tail) h = (
 each_of_splits : (P : Entry → Type 0) (es : List Entry) →
     ((before later : List Entry) (e : Entry) → es ≡ before ++ e ∷ later → P e) → AllByRecursion P es
 each_of_splits P [] h = tt
-each_of_splits P (e ∷ es) h = (h [] es e refl,
-    each_of_splits P es (λ before later f w. h (e ∷ before) later f (ap (λ l. e ∷ l) w)))
+each_of_splits P (e ∷ es) h = (
+  h [] es e refl,
+  each_of_splits P es (λ before later f w. h (e ∷ before) later f (ap (λ l. e ∷ l) w)),
+)
 
 -- what entries in front of a split have to it, and it to those behind it
 pairs_front : (R : Entry → Entry → Type 0) (before later : List Entry) (e : Entry) → Pairs R (before ++ e ∷ later) →
@@ -117,19 +119,19 @@ stamps_in epoch shards m h = each_of_splits (IsStampIn epoch m) m at
     at : (before later : List Entry) (e : Entry) → m ≡ before ++ e ∷ later → IsStampIn epoch m e
     at before later e w =
         let made : IsMade epoch shards before e = grown_at (IsMade epoch shards) [] before later e
-            (subst (Grown (IsMade epoch shards) []) w h) in
+        (subst (Grown (IsMade epoch shards) []) w h) in
         let above : Pairs (IsAbove epoch) (before ++ e ∷ later) =
-            subst (Pairs (IsAbove epoch)) w (stamps_above epoch shards m (laid_of_made epoch shards [] m h)) in
+        subst (Pairs (IsAbove epoch)) w (stamps_above epoch shards m (laid_of_made epoch shards [] m h)) in
         let rise : Pairs (λ e f. epoch e.incarnation ≤ epoch f.incarnation) (before ++ e ∷ later) =
         subst (Pairs (λ e f. epoch e.incarnation ≤ epoch f.incarnation)) w
-            (epochs_rise epoch shards m (laid_of_made epoch shards [] m h)) in
+        (epochs_rise epoch shards m (laid_of_made epoch shards [] m h)) in
         made.stamp ∙ ap (λ n. n + 1) (sym (ap (greatest (is_under epoch e)) w ∙ greatest_at_split epoch before later e
         (each-weaker (λ x. IsAbove epoch x e) (λ x. is_before epoch e.incarnation e.shard x ≡ is_under epoch e x)
-            (λ x k. under_front epoch x e k) before (pairs_front (IsAbove epoch) before later e above))
+        (λ x k. under_front epoch x e k) before (pairs_front (IsAbove epoch) before later e above))
         (each-both (IsAbove epoch e) (λ x. epoch e.incarnation ≤ epoch x.incarnation) (λ x. is_under epoch e x
-            ≡ false) (λ x a l. under_back epoch e x a l) later
+        ≡ false) (λ x a l. under_back epoch e x a l) later
         (pairs_back (IsAbove epoch) before later e above)
-            (pairs_back (λ e f. epoch e.incarnation ≤ epoch f.incarnation) before later e rise))))
+        (pairs_back (λ e f. epoch e.incarnation ≤ epoch f.incarnation) before later e rise))))
 
 precedes_before : (e f : Entry) → Precedes e f → stands_before e f ≡ true
 precedes_before e f h = grind (arith, nat_tests)
@@ -165,17 +167,17 @@ in_order_made epoch shards m h = grown_of_splits (IsMade epoch shards) [] (in_or
     at : (before later : List Entry) (e : Entry) → in_order m ≡ before ++ e ∷ later → IsMade epoch shards before e
     at before later e w =
         let pairs : Pairs Precedes (before ++ e ∷ later) =
-            subst (Pairs Precedes) w (pairs_of_order (in_order m) order.ordered) in
+        subst (Pairs Precedes) w (pairs_of_order (in_order m) order.ordered) in
         record {
           stamp = each_at (IsStampIn epoch (in_order m)) before later e
               (subst (AllByRecursion (IsStampIn epoch (in_order m))) w stamps)
               ∙ ap (λ n. n + 1) (ap (greatest (is_under epoch e)) w ∙ greatest_at_split epoch before later e
               (each-weaker (λ x. Precedes x e) (λ x. is_before epoch e.incarnation e.shard x ≡ is_under epoch e x)
-                  (λ x k. and_true _ (stands_before x e) (precedes_before x e k)) before
-                  (pairs_front Precedes before later e pairs))
+              (λ x k. and_true _ (stands_before x e) (precedes_before x e k)) before
+              (pairs_front Precedes before later e pairs))
               (each-weaker (Precedes e) (λ x. is_under epoch e x ≡ false)
-                  (λ x k. and_false _ (stands_before x e) (precedes_not e x k)) later
-                  (pairs_back Precedes before later e pairs)));
+              (λ x k. and_false _ (stands_before x e) (precedes_not e x k)) later
+              (pairs_back Precedes before later e pairs)));
           shard = each_at (λ f. f.shard ≡ key_of f.request % shards) before later e
               (subst (AllByRecursion (λ f. f.shard ≡ key_of f.request % shards)) w own);
           reply = (legal-back empty before (e ∷ later) (subst IsLegal w order.legal)).0;

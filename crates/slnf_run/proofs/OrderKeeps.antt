@@ -35,9 +35,9 @@ made_in_order epoch shards m h =
     let above : Pairs (IsAbove epoch) m = stamps_above epoch shards m h in
     let shard : Pairs (λ e f. e.shard ≡ f.shard → e.stamp < f.stamp) m = shard_stamps_rise epoch m above in
     let own : Pairs (λ e f. e.incarnation ≡ f.incarnation → e.stamp < f.stamp) m =
-        incarnation_stamps_rise epoch m above in
+    incarnation_stamps_rise epoch m above in
     let key : Pairs (λ e f. key_of e.request ≡ key_of f.request → e.stamp < f.stamp) m =
-        key_stamps_rise shards m (made_own epoch shards [] m h) shard in
+    key_stamps_rise shards m (made_own epoch shards [] m h) shard in
     let keys : (k : ℕ) → of_key k (in_order m) ≡ of_key k m =
     λ k. filter-in_order (λ e. key_of e.request == k) m (rises_of_number (λ e. key_of e.request) k m key) in
     record {
@@ -57,6 +57,7 @@ pub made_each_in_shard : (epoch : ℕ → ℕ) (shards : ℕ) (es tail : List En
     AllByRecursion (IsInShard shards) tail
 made_each_in_shard epoch shards es [] l h = tt
 made_each_in_shard epoch shards es (e ∷ tail) l h =
-    let above : greatest (is_before epoch e.incarnation e.shard) es < e.stamp = h.0.above in
-    (record { from_one = omega arith; below_end = l.0; shard = h.0.shard },
-        made_each_in_shard epoch shards (es ++ e ∷ []) tail l.1 h.1)
+    let above : greatest (is_before epoch e.incarnation e.shard) es < e.stamp = h.0.above in (
+      record { from_one = omega arith; below_end = l.0; shard = h.0.shard },
+      made_each_in_shard epoch shards (es ++ e ∷ []) tail l.1 h.1,
+    )

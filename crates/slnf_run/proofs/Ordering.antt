@@ -41,7 +41,7 @@ batched_has : (limit : ℕ) (first : ℕ → Option ℕ) (number size : ℕ) (ke
     item < a + n → has_item item (batched limit first number size keys (range_with_len a n)) ≡ true
 batched_has limit first number size keys a n item h l =
     range_has_item item a n (batched limit first number size keys (range_with_len a n))
-        (items_batched limit first number size keys (range_with_len a n)) h l
+    (items_batched limit first number size keys (range_with_len a n)) h l
 
 among_more : (key : ℕ) (more : Option ℕ) (keys : List ℕ) → is_among (Some key) keys ≡ true →
     is_among (Some key) (with_key more keys) ≡ true
@@ -73,23 +73,23 @@ above_batch limit first number size keys a (suc n) item key low high has among =
   | inl same ↦
       let closed : (nat_lt size limit && not (is_among (first a) keys)) ≡ false =
       and_not (nat_lt size limit) (is_among (first a) keys) (ap (λ o. is_among o keys) (ap first same ∙ has)
-          ∙ among) in
+      ∙ among) in
       let q : batch_of item (batched limit first number size keys (range_with_len a (suc n))) ≡ number + 1 =
       ap (λ b. batch_of item (cond b (record { item = a; batch = number } ∷ batched limit first number (size + 1)
-          (with_key (first a) keys) (range_with_len (a + 1) n))
-          (record { item = a; batch = number + 1 } ∷ batched limit first (number + 1) 1 (with_key (first a) [])
-          (range_with_len (a + 1) n)))) closed
+      (with_key (first a) keys) (range_with_len (a + 1) n))
+      (record { item = a; batch = number + 1 } ∷ batched limit first (number + 1) 1 (with_key (first a) [])
+      (range_with_len (a + 1) n)))) closed
       ∙ same_first (record { item = a; batch = number + 1 }) item
-          (batched limit first (number + 1) 1 (with_key (first a) []) (range_with_len (a + 1) n)) same in
+      (batched limit first (number + 1) 1 (with_key (first a) []) (range_with_len (a + 1) n)) same in
       omega arith
   | inr less ↦
       go (nat_lt size limit && not (is_among (first a) keys))
       (above_batch limit first number (size + 1) (with_key (first a) keys) (a + 1) n item key (omega arith)
-          (omega arith) has (among_more key (first a) keys among))
+      (omega arith) has (among_more key (first a) keys among))
       (batch_least (number + 1) item (batched limit first (number + 1) 1 (with_key (first a) [])
-          (range_with_len (a + 1) n)) (rises_batched limit first (number + 1) 1 (with_key (first a) [])
-          (range_with_len (a + 1) n)) (batched_has limit first (number + 1) 1 (with_key (first a) []) (a + 1) n item
-          (omega arith) (omega arith)))
+      (range_with_len (a + 1) n)) (rises_batched limit first (number + 1) 1 (with_key (first a) [])
+      (range_with_len (a + 1) n)) (batched_has limit first (number + 1) 1 (with_key (first a) []) (a + 1) n item
+      (omega arith) (omega arith)))
       (λ e. let q : a ≡ item = e in omega arith)
 ]
   where
@@ -102,15 +102,15 @@ above_batch limit first number size keys a (suc n) item key low high has among =
         (range_with_len (a + 1) n)))
     go true h k other =
         let q : batch_of item (record { item = a; batch = number } ∷ batched limit first number (size + 1)
-            (with_key (first a) keys) (range_with_len (a + 1) n))
-            ≡ batch_of item (batched limit first number (size + 1) (with_key (first a) keys)
-            (range_with_len (a + 1) n)) = other_first (record { item = a; batch = number }) item _ other in
+        (with_key (first a) keys) (range_with_len (a + 1) n))
+        ≡ batch_of item (batched limit first number (size + 1) (with_key (first a) keys)
+        (range_with_len (a + 1) n)) = other_first (record { item = a; batch = number }) item _ other in
         omega arith
     go false h k other =
         let q : batch_of item (record { item = a; batch = number + 1 } ∷ batched limit first (number + 1) 1
-            (with_key (first a) []) (range_with_len (a + 1) n))
-            ≡ batch_of item (batched limit first (number + 1) 1 (with_key (first a) []) (range_with_len (a + 1) n)) =
-            other_first (record { item = a; batch = number + 1 }) item _ other in
+        (with_key (first a) []) (range_with_len (a + 1) n))
+        ≡ batch_of item (batched limit first (number + 1) 1 (with_key (first a) []) (range_with_len (a + 1) n)) =
+        other_first (record { item = a; batch = number + 1 }) item _ other in
         omega arith
 
 -- of two items with one first key the later is in a later batch
@@ -121,24 +121,24 @@ pub batches_apart : (limit : ℕ) (first : ℕ → Option ℕ) (number size : �
 batches_apart limit first number size keys a zero k l key low between high has_k has_l = absurd (omega arith)
 batches_apart limit first number size keys a (suc n) k l key low between high has_k has_l =
     elim (eq-or-lt_of_le low) [
-  | inl same ↦ here same (nat_lt size limit && not (is_among (first a) keys))
-  | inr less ↦
-      further less (nat_lt size limit && not (is_among (first a) keys))
-      (batches_apart limit first number (size + 1) (with_key (first a) keys) (a + 1) n k l key (omega arith) between
+      | inl same ↦ here same (nat_lt size limit && not (is_among (first a) keys))
+      | inr less ↦
+          further less (nat_lt size limit && not (is_among (first a) keys))
+          (batches_apart limit first number (size + 1) (with_key (first a) keys) (a + 1) n k l key (omega arith) between
           (omega arith) has_k has_l)
-      (batches_apart limit first (number + 1) 1 (with_key (first a) []) (a + 1) n k l key (omega arith) between
+          (batches_apart limit first (number + 1) 1 (with_key (first a) []) (a + 1) n k l key (omega arith) between
           (omega arith) has_k has_l)
-]
+    ]
   where
     both : (b : ℕ) (rest : List Offer) → (a ≡ k → ⊥) → batch_of k rest < batch_of l rest →
         batch_of k (record { item = a; batch = b } ∷ rest) < batch_of l (record { item = a; batch = b } ∷ rest)
     both b rest other h =
         let later : a ≤ k = low in
         let q : batch_of k (record { item = a; batch = b } ∷ rest) ≡ batch_of k rest =
-            other_first (record { item = a; batch = b }) k rest other in
+        other_first (record { item = a; batch = b }) k rest other in
         let r : batch_of l (record { item = a; batch = b } ∷ rest) ≡ batch_of l rest =
-            other_first (record { item = a; batch = b }) l rest (λ e. let z : a ≡ l = e in let y : k < l = between in
-            omega arith) in
+        other_first (record { item = a; batch = b }) l rest (λ e. let z : a ≡ l = e in let y : k < l = between in
+        omega arith) in
         omega arith
 
     further : a < k → (b : Bool) → batch_of k (batched limit first number (size + 1) (with_key (first a) keys)
@@ -161,10 +161,10 @@ batches_apart limit first number size keys a (suc n) k l key low between high ha
         batch_of k (record { item = a; batch = b } ∷ rest) < batch_of l (record { item = a; batch = b } ∷ rest)
     one same b rest h =
         let q : batch_of k (record { item = a; batch = b } ∷ rest) ≡ b =
-            same_first (record { item = a; batch = b }) k rest same in
+        same_first (record { item = a; batch = b }) k rest same in
         let r : batch_of l (record { item = a; batch = b } ∷ rest) ≡ batch_of l rest =
-            other_first (record { item = a; batch = b }) l rest (λ e. let z : a ≡ l = e in let y : k < l = between in
-            omega arith) in
+        other_first (record { item = a; batch = b }) l rest (λ e. let z : a ≡ l = e in let y : k < l = between in
+        omega arith) in
         omega arith
 
     in_hand : a ≡ k → (keys : List ℕ) → is_among (Some key) (with_key (first a) keys) ≡ true
@@ -200,9 +200,12 @@ two_at es d c f e h g l =
     let n : ℕ = c - suc d in
     let q : suc d + n ≡ c = omega arith in
     let at : slice_get (drop (suc d) es) n ≡ Some e = slice_get_drop (suc d) n es ∙ ap (slice_get es) q ∙ g in
-    let w = whole_at (drop (suc d) es) n e at in
-    (take n (drop (suc d) es), drop (suc n) (drop (suc d) es), (whole_at es d f h).0
-        ∙ ap (λ xs. take d es ++ f ∷ xs) w.0)
+    let w = whole_at (drop (suc d) es) n e at in (
+      take n (drop (suc d) es),
+      drop (suc n) (drop (suc d) es),
+      (whole_at es d f h).0
+          ∙ ap (λ xs. take d es ++ f ∷ xs) w.0,
+    )
 
 push_no_nil : (xs ys : List Entry) (e : Entry) → xs ++ e ∷ ys ≡ [] → ⊥
 push_no_nil [] ys e h = cc
@@ -212,8 +215,8 @@ own_somewhere : (xs ys : List Entry) (e : Entry) (i : ℕ) → e.incarnation ≡
 own_somewhere xs ys e i same h =
     push_no_nil (own_of i e.item xs) (own_of i e.item ys) e
     (ap (λ b. own_of i e.item xs ++ cond b (e ∷ own_of i e.item ys) (own_of i e.item ys))
-        (sym (and_from (e.incarnation == i) (e.item == e.item) (eq-eqb e.incarnation i same)
-        (eq-eqb e.item e.item refl)))
+    (sym (and_from (e.incarnation == i) (e.item == e.item) (eq-eqb e.incarnation i same)
+    (eq-eqb e.item e.item refl)))
     ∙ sym (filter-append (is_of i e.item) xs (e ∷ ys)) ∙ h)
 
 module _ {F A : Type 0} (s : Setting F A) (j : List Entry) (sound : IsSound s) (run : IsRun s j) where
@@ -222,10 +225,11 @@ module _ {F A : Type 0} (s : Setting F A) (j : List Entry) (sound : IsSound s) (
       × (first_key_of (s.scene.machine e.incarnation) (s.scene.begins e.incarnation e.item) ≡ Some key)
   has_first_key d e at =
       let r : (first : F) × (flight : F) × IsNext s.scene (map_after empty (take d j))
-          (own_of e.incarnation e.item (take d j)) e first flight =
-      is_next s.scene j run.legal (paths_of_run s j run) (take d j) (drop (suc d) j) e (whole_at j d e at).0 in
-      (key_of ((s.scene.machine e.incarnation).asks r.0),
-          ap (first_key_of (s.scene.machine e.incarnation)) r.2.begins)
+      (own_of e.incarnation e.item (take d j)) e first flight =
+      is_next s.scene j run.legal (paths_of_run s j run) (take d j) (drop (suc d) j) e (whole_at j d e at).0 in (
+        key_of ((s.scene.machine e.incarnation).asks r.0),
+        ap (first_key_of (s.scene.machine e.incarnation)) r.2.begins,
+      )
 
   -- of two items of one incarnation with one first key, the earlier has ended where the later has an entry
   same_incarnation : (lane c d : ℕ) (e f : Entry) (post : Post) → slice_get j c ≡ Some e → slice_get j d ≡ Some f →
@@ -243,28 +247,28 @@ module _ {F A : Type 0} (s : Setting F A) (j : List Entry) (sound : IsSound s) (
       let offers : List Offer = batched s.batch first 0 0 [] (range_with_len post.at count) in
       let offered : offers_at s i post ≡ offers = offers_on_lane s lane i post.at post.actor on in
       let f_offered : IsOffered f.item offers = subst (IsOffered f.item) offered
-          (entry_offered s j run (take d j) (middle_of w.0 e w.1) f post w.2 posted) in
+      (entry_offered s j run (take d j) (middle_of w.0 e w.1) f post w.2 posted) in
       let e_split : j ≡ (take d j ++ f ∷ w.0) ++ e ∷ w.1 = w.2 ∙ sym (append_assoc (take d j) (f ∷ w.0) (e ∷ w.1)) in
       let e_offered : IsOffered e.item offers = subst (IsOffered e.item) offered
-          (subst (λ n. IsOffered e.item (offers_at s n post)) same
-          (entry_offered s j run (take d j ++ f ∷ w.0) w.1 e post e_split (ap (slice_get (posts_of s j)) same
-          ∙ posted))) in
+      (subst (λ n. IsOffered e.item (offers_at s n post)) same
+      (entry_offered s j run (take d j ++ f ∷ w.0) w.1 e post e_split (ap (slice_get (posts_of s j)) same
+      ∙ posted))) in
       let range_f : (post.at ≤ f.item) × (f.item < post.at + count) =
-          has_in_range f.item post.at count offers (items_batched s.batch first 0 0 [] (range_with_len post.at count))
-          (offered_has f.item offers f_offered) in
+      has_in_range f.item post.at count offers (items_batched s.batch first 0 0 [] (range_with_len post.at count))
+      (offered_has f.item offers f_offered) in
       let range_e : (post.at ≤ e.item) × (e.item < post.at + count) =
-          has_in_range e.item post.at count offers (items_batched s.batch first 0 0 [] (range_with_len post.at count))
-          (offered_has e.item offers e_offered) in
+      has_in_range e.item post.at count offers (items_batched s.batch first 0 0 [] (range_with_len post.at count))
+      (offered_has e.item offers e_offered) in
       let less : batch_of e.item offers < batch_of f.item offers =
-          batches_apart s.batch first 0 0 [] post.at count e.item f.item key.0 range_e.0 between range_f.1 key_e
-          key.1 in
+      batches_apart s.batch first 0 0 [] post.at count e.item f.item key.0 range_e.0 between range_f.1 key_e
+      key.1 in
       let earlier : EarlierEnded s i (take d j) (batch_of f.item offers) offers =
-          subst (λ o. EarlierEnded s i (take d j) (batch_of f.item o) o) offered
-          (run.by_batch (take d j) (middle_of w.0 e w.1) f post w.2 posted) in
+      subst (λ o. EarlierEnded s i (take d j) (batch_of f.item o) o) offered
+      (run.by_batch (take d j) (middle_of w.0 e w.1) f post w.2 posted) in
       let ended : HasEnded (stand_of s.scene i e.item (take d j)) =
-          earlier_ended_at s i (take d j) (batch_of f.item offers) e.item offers earlier e_offered less in
+      earlier_ended_at s i (take d j) (batch_of f.item offers) e.item offers earlier e_offered less in
       let none : own_of i e.item (f ∷ middle_of w.0 e w.1) ≡ [] =
-          nothing_behind s.scene i e.item j (take d j) (f ∷ middle_of w.0 e w.1) (paths_of_run s j run) w.2 ended in
+      nothing_behind s.scene i e.item j (take d j) (f ∷ middle_of w.0 e w.1) (paths_of_run s j run) w.2 ended in
       own_somewhere (f ∷ w.0) w.1 e i same none
     where
       middle_of : List Entry → Entry → List Entry → List Entry
@@ -277,9 +281,9 @@ module _ {F A : Type 0} (s : Setting F A) (j : List Entry) (sound : IsSound s) (
       ≡ first_key_of (s.scene.machine f.incarnation) (s.scene.begins f.incarnation f.item) → c < d
   entries_in_order lane c d e f at_c at_d on_e on_f between keys =
       let p : IsTaker s j lane e.item e.incarnation =
-          taker s j lane e.item e.incarnation (taken_by_entry s j run lane c e at_c on_e) in
+      taker s j lane e.item e.incarnation (taken_by_entry s j run lane c e at_c on_e) in
       let q : IsTaker s j lane f.item f.incarnation =
-          taker s j lane f.item f.incarnation (taken_by_entry s j run lane d f at_d on_f) in
+      taker s j lane f.item f.incarnation (taken_by_entry s j run lane d f at_d on_f) in
       elim (cases_order c d) [
         | inl same ↦
             let one : e ≡ f = same_Some e f (sym at_c ∙ ap (slice_get j) same ∙ at_d) in
@@ -288,18 +292,18 @@ module _ {F A : Type 0} (s : Setting F A) (j : List Entry) (sound : IsSound s) (
         | inr (inl less) ↦ less
         | inr (inr more) ↦
             elim (apart s j lane s.eras 0 0 (λ lane.
-                0) e.incarnation f.incarnation p.post q.post sound.lanes_once p.posted q.posted p.on q.on) [
+            0) e.incarnation f.incarnation p.post q.post sound.lanes_once p.posted q.posted p.on q.on) [
               | inl same ↦ absurd (same_incarnation lane c d e f q.post at_c at_d q.posted q.on same between keys
                   more)
               | inr (inl before) ↦
                   let w = two_at j d c f e at_d at_c more in
                   let eras : era_of s.eras f.incarnation ≤ era_of s.eras e.incarnation =
-                      run.by_epoch (take d j) w.0 w.1 f e w.2 in
+                  run.by_epoch (take d j) w.0 w.1 f e w.2 in
                   let l : era_of s.eras e.incarnation < era_of s.eras f.incarnation = before.era in
                   absurd (omega arith)
               | inr (inr before) ↦
                   let r : q.post.at + length (taken_at s j f.incarnation q.post) ≤ p.post.at =
-                      room_of s j f.incarnation e.incarnation q.post p.post before in
+                  room_of s j f.incarnation e.incarnation q.post p.post before in
                   let a : f.item < q.post.at + length (taken_at s j f.incarnation q.post) = q.upto in
                   let b : p.post.at ≤ e.item = p.from in
                   absurd (omega arith)
@@ -323,7 +327,7 @@ module _ {F A : Type 0} (s : Setting F A) (j : List Entry) (sound : IsSound s) (
       entries_in_order lane c b.first h.e b.own h.at b.at
       (subst (IsOn s j lane) (sym h.by) on_i) (subst (IsOn s j lane) (sym bi) on_m) (omega arith)
       (ap (λ n. first_key_of (s.scene.machine n) (s.scene.begins n h.e.item)) h.by
-          ∙ ap (λ n. first_key_of (s.scene.machine i) (s.scene.begins i n)) h.of ∙ keys
+      ∙ ap (λ n. first_key_of (s.scene.machine i) (s.scene.begins i n)) h.of ∙ keys
       ∙ sym (ap (λ n. first_key_of (s.scene.machine n) (s.scene.begins n b.own.item)) bi
-          ∙ ap (λ n. first_key_of (s.scene.machine m) (s.scene.begins m n)) bk)) in
+      ∙ ap (λ n. first_key_of (s.scene.machine m) (s.scene.begins m n)) bk)) in
       omega arith

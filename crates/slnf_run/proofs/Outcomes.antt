@@ -29,7 +29,7 @@ range_split a (suc n) d h l = elim (eq-or-lt_of_le h) [
   | inl same ↦ ([], range_with_len (a + 1) n, ap (λ x. x ∷ range_with_len (a + 1) n) same)
   | inr less ↦
       let r : (xs : List ℕ) × (ys : List ℕ) × (range_with_len (a + 1) n ≡ xs ++ d ∷ ys) =
-          range_split (a + 1) n d (omega arith) (omega arith) in
+      range_split (a + 1) n d (omega arith) (omega arith) in
       (a ∷ r.0, r.1, ap (λ l. a ∷ l) r.2)
 ]
 
@@ -59,19 +59,19 @@ seen {F = F} {A = A} s box Same es d e decision places explained at decided =
     let size : d < length es = slice_get_within es d e at in
     let upto : s.place es d decision.first decision.verdict ≤ d = w.upto in
     let p : (f : Entry) × IsSplit es (s.place es d decision.first decision.verdict) f =
-        split_at es (s.place es d decision.first decision.verdict) (omega arith) in
+    split_at es (s.place es d decision.first decision.verdict) (omega arith) in
     let there : (f : Entry) × (slice_get es (s.place es d decision.first decision.verdict) ≡ Some f) =
-        (p.0, p.1.at) in
+    (p.0, p.1.at) in
     let visit : Visit A = record { arrival = s.arrival decision.first there.0; verdict = Some decision.verdict } in
     let by : visit_by s es t there.0 d ≡ Some visit =
     ap (option_and_then (λ (x : Decision F). if s.place es d x.first x.verdict == t then Some
-        (record { arrival = s.arrival x.first there.0; verdict = Some x.verdict }) else None)) decided
+    (record { arrival = s.arrival x.first there.0; verdict = Some x.verdict }) else None)) decided
     ∙ ap (λ b. cond b (Some visit) None) (eq-eqb t t refl) in
     let r = range_split 0 (length es) d (omega arith) (let l : d < length es = slice_get_within es d e at in
-        omega arith) in
+    omega arith) in
     let f : ℕ → Option (Visit A) = visit_by s es t there.0 in
     let visits : visits_of s es t there.0 ≡ (map removal (s.removals there.0) ++ filter_map f r.0)
-        ++ visit ∷ filter_map f r.1 =
+    ++ visit ∷ filter_map f r.1 =
     ap (λ l. map removal (s.removals there.0) ++ filter_map f l) r.2
     ∙ ap (λ l. map removal (s.removals there.0) ++ l) (picks_split f r.0 r.1 d visit by)
     ∙ sym (append_assoc (map removal (s.removals there.0)) (filter_map f r.0) (visit ∷ filter_map f r.1)) in
@@ -118,7 +118,7 @@ module _ {F A : Type 0} (s : Setting F A) (j : List Entry) (sound : IsSound s) (
   pub comes_once : (lane number : ℕ) → ReachesBoxOnce s j lane number
   comes_once lane number c d h g =
       let same : g.0 ≡ h.0 = one_taker s j sound lane number g.0 h.0 (comes_taken lane number g.0 d g.1 g.2 g.3)
-          (comes_taken lane number h.0 c h.1 h.2 h.3) in
+      (comes_taken lane number h.0 c h.1 h.2 h.3) in
       decided_once h.0 number c d h.1 g.1 h.3 (subst (λ i. IsDecided s j i number d g.1) same g.3)
 
   never_untaken : (lane number : ℕ) → NobodyTook s j lane number → NeverReachesBox s j lane number
@@ -129,7 +129,7 @@ module _ {F A : Type 0} (s : Setting F A) (j : List Entry) (sound : IsSound s) (
   never_begun lane number i v took begins d h =
       let same : h.0 ≡ i = one_taker s j sound lane number h.0 i (comes_taken lane number h.0 d h.1 h.2 h.3) took in
       let flies : s.scene.begins i number ≡ Flies h.1.first =
-          begins_flying i number d h.1 (subst (λ i. IsDecided s j i number d h.1) same h.3) in
+      begins_flying i number d h.1 (subst (λ i. IsDecided s j i number d h.1) same h.3) in
       cc
 
   -- somebody took a packet, or nobody did
@@ -148,9 +148,13 @@ module _ {F A : Type 0} (s : Setting F A) (j : List Entry) (sound : IsSound s) (
           ⊎ ((k : ℕ) (post : Post) → slice_get (p ∷ posts) k ≡ Some post → takes s j (base + k) post lane number
           ≡ true → ⊥)
       go true w r = inl (0, p, refl, subst (λ n. takes s j n p lane number ≡ true) (sym (add-zero base)) w)
-      go false w (inl r) = inl (suc r.0, r.1, r.2,
-          (let q : base + 1 + r.0 ≡ base + suc r.0 = omega arith in
-          subst (λ n. takes s j n r.1 lane number ≡ true) q r.3))
+      go false w (inl r) = inl (
+        suc r.0,
+        r.1,
+        r.2,
+        (let q : base + 1 + r.0 ≡ base + suc r.0 = omega arith in
+            subst (λ n. takes s j n r.1 lane number ≡ true) q r.3),
+      )
       go false w (inr none) = inr all
         where
           all : (k : ℕ) (post : Post) → slice_get (p ∷ posts) k ≡ Some post → takes s j (base + k) post lane number
@@ -158,7 +162,7 @@ module _ {F A : Type 0} (s : Setting F A) (j : List Entry) (sound : IsSound s) (
           all zero post h t =
               let same : p ≡ post = same_Some p post h in
               let yes_so : takes s j base p lane number ≡ true = ap (λ p. takes s j base p lane number) same
-                  ∙ subst (λ n. takes s j n post lane number ≡ true) (add-zero base) t in
+              ∙ subst (λ n. takes s j n post lane number ≡ true) (add-zero base) t in
               let no : false ≡ true = sym w ∙ yes_so in
               cc
           all (suc k) post h t = none k post h (let q : base + suc k ≡ base + 1 + k = omega arith in

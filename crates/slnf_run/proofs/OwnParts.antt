@@ -43,14 +43,14 @@ batch_of_split : {F A : Type 0} (s : Setting F A) (posts : List Post) (m : List 
     (offers_at s incarnation post)
 batch_of_split s posts m incarnation post own e grown at split =
     let here : EarlierEnded s e.incarnation split.before (batch_of e.item (offers_at s e.incarnation post))
-        (offers_at s e.incarnation post) =
+    (offers_at s e.incarnation post) =
     grown_by_batch s posts split.before split.later e post (subst (Grown (IsNext s posts) []) split.whole grown)
-        (ap (slice_get posts) split.mine ∙ at) in
+    (ap (slice_get posts) split.mine ∙ at) in
     earlier_ended-same s incarnation split.before own (batch_of e.item (offers_at s incarnation post))
-        (offers_at s incarnation post)
+    (offers_at s incarnation post)
     (sym (part_of-part_of incarnation split.before) ∙ ap (part_of incarnation) split.part)
     (subst (λ i. EarlierEnded s i split.before (batch_of e.item (offers_at s i post)) (offers_at s i post)) split.mine
-        here)
+    here)
 
 -- what grew by the rule of runs, and leaves each actor with its work done, keeps the rules on parts
 pub own_run_of_grown : {F A : Type 0} (s : Setting F A) (posts : List Post) (m : List Entry) →
@@ -76,7 +76,7 @@ loose_of_own s m own = record {
   by_batch = λ before later e post h at.
       earlier_ended-same s e.incarnation (part_of e.incarnation before) before
       (batch_of e.item (offers_at s e.incarnation post)) (offers_at s e.incarnation post)
-          (part_of-part_of e.incarnation before)
+      (part_of-part_of e.incarnation before)
       (own.by_batch e.incarnation post (part_of e.incarnation before) (part_of e.incarnation later) e at
-          (part_at before later e m h));
+      (part_at before later e m h));
 }

@@ -85,9 +85,9 @@ pairs_of_grown R es [] h = (each_none es, tt)
     each_none (f ∷ fs) = (tt, each_none fs)
 pairs_of_grown R es (e ∷ tail) h =
     let rest : AllByRecursion (λ x. AllByRecursion (R x) tail) (es ++ e ∷ []) × Pairs R tail =
-        pairs_of_grown R (es ++ e ∷ []) tail h.1 in
+    pairs_of_grown R (es ++ e ∷ []) tail h.1 in
     let parts : AllByRecursion (λ x. AllByRecursion (R x) tail) es × AllByRecursion (R e) tail =
-        each-snoc (λ x. AllByRecursion (R x) tail) es e rest.0 in (
+    each-snoc (λ x. AllByRecursion (R x) tail) es e rest.0 in (
       each-both (λ x. R x e) (λ x. AllByRecursion (R x) tail) (λ x. AllByRecursion (R x) (e ∷ tail))
           (λ x a b. (a, b)) es h.0 parts.0,
       (parts.1, rest.1),

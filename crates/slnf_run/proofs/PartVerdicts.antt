@@ -17,14 +17,14 @@ verdict_by-same : {F A : Type 0} (s : Setting F A) (m j : List Entry) (incarnati
     ≡ verdict_by s j incarnation post number
 verdict_by-same s m j incarnation post number h =
     ap (λ part. verdict_at (stand_after (s.scene.machine incarnation) (s.scene.begins incarnation number)
-        (of_item number (counted (is_stopped post.actor part) part)))) h
+    (of_item number (counted (is_stopped post.actor part) part)))) h
 
 takes-same : {F A : Type 0} (s : Setting F A) (m j : List Entry) (incarnation : ℕ) (post : Post) (lane number : ℕ) →
     part_of incarnation m ≡ part_of incarnation j → takes s m incarnation post lane number
     ≡ takes s j incarnation post lane number
 takes-same s m j incarnation post lane number h =
     ap (λ part. is_on lane post.actor && list_any (λ offer. offer.item == number)
-        (taken_of post.actor part (offers_at s incarnation post))) h
+    (taken_of post.actor part (offers_at s incarnation post))) h
 
 verdict_among-same : {F A : Type 0} (s : Setting F A) (m j : List Entry) (lane number incarnation : ℕ)
     (posts : List Post) → ((i : ℕ) → part_of i m ≡ part_of i j) → verdict_among s m lane number incarnation posts
@@ -32,23 +32,23 @@ verdict_among-same : {F A : Type 0} (s : Setting F A) (m j : List Entry) (lane n
 verdict_among-same s m j lane number incarnation [] same = refl
 verdict_among-same s m j lane number incarnation (post ∷ posts) same =
     ap (λ b. if b then verdict_by s m incarnation post number else verdict_among s m lane number
-        (incarnation + 1) posts) (takes-same s m j incarnation post lane number (same incarnation))
+    (incarnation + 1) posts) (takes-same s m j incarnation post lane number (same incarnation))
     ∙ ap₂ (λ v w. if takes s j incarnation post lane number then v else w)
     (verdict_by-same s m j incarnation post number (same incarnation))
-        (verdict_among-same s m j lane number (incarnation + 1) posts same)
+    (verdict_among-same s m j lane number (incarnation + 1) posts same)
 
 pub verdict_of-same : {F A : Type 0} (s : Setting F A) (m j : List Entry) (lane number : ℕ) →
     ((i : ℕ) → part_of i m ≡ part_of i j) → verdict_of s m lane number ≡ verdict_of s j lane number
 verdict_of-same s m j lane number same =
     ap (verdict_among s m lane number 0) (posts_of-same s m j same)
-        ∙ verdict_among-same s m j lane number 0 (posts_of s j) same
+    ∙ verdict_among-same s m j lane number 0 (posts_of s j) same
 
 verdicts_from-same : {F A : Type 0} (s : Setting F A) (m j : List Entry) (lane : ℕ) (counts : List ℕ) →
     ((i : ℕ) → part_of i m ≡ part_of i j) → verdicts_from s m lane counts ≡ verdicts_from s j lane counts
 verdicts_from-same s m j lane [] same = refl
 verdicts_from-same s m j lane (count ∷ counts) same =
     ap₂ (λ (f : ℕ → Verdict) (rest : List (List Verdict)). map f (range_with_len 0 count) ∷ rest)
-        (λ i number. verdict_of-same s m j lane number same i) (verdicts_from-same s m j (lane + 1) counts same)
+    (λ i number. verdict_of-same s m j lane number same i) (verdicts_from-same s m j (lane + 1) counts same)
 
 pub verdicts_of-same : {F A : Type 0} (s : Setting F A) (m j : List Entry) → ((i : ℕ) → part_of i m ≡ part_of i j) →
     verdicts_of s m ≡ verdicts_of s j

@@ -49,18 +49,20 @@ pub all_ended-same : {F A : Type 0} (s : Setting F A) (incarnation : ℕ) (es fs
     part_of incarnation es ≡ part_of incarnation fs → AllEnded s incarnation es offers →
     AllEnded s incarnation fs offers
 all_ended-same s incarnation es fs [] h k = tt
-all_ended-same s incarnation es fs (offer ∷ offers) h k =
-    (subst HasEnded (stand_of-same s.scene incarnation offer.item es fs h) k.0,
-        all_ended-same s incarnation es fs offers h k.1)
+all_ended-same s incarnation es fs (offer ∷ offers) h k = (
+  subst HasEnded (stand_of-same s.scene incarnation offer.item es fs h) k.0,
+  all_ended-same s incarnation es fs offers h k.1,
+)
 
 -- the same for offers of earlier batches
 pub earlier_ended-same : {F A : Type 0} (s : Setting F A) (incarnation : ℕ) (es fs : List Entry) (batch : ℕ)
     (offers : List Offer) → part_of incarnation es ≡ part_of incarnation fs →
     EarlierEnded s incarnation es batch offers → EarlierEnded s incarnation fs batch offers
 earlier_ended-same s incarnation es fs batch [] h k = tt
-earlier_ended-same s incarnation es fs batch (offer ∷ offers) h k =
-    (λ l. subst HasEnded (stand_of-same s.scene incarnation offer.item es fs h) (k.0 l),
-        earlier_ended-same s incarnation es fs batch offers h k.1)
+earlier_ended-same s incarnation es fs batch (offer ∷ offers) h k = (
+  λ l. subst HasEnded (stand_of-same s.scene incarnation offer.item es fs h) (k.0 l),
+  earlier_ended-same s incarnation es fs batch offers h k.1,
+)
 
 -- an actor has done its work in each list with the same part of it
 pub is_done-same : {F A : Type 0} (s : Setting F A) (es fs : List Entry) (incarnation : ℕ) (post : Post) →
@@ -68,8 +70,10 @@ pub is_done-same : {F A : Type 0} (s : Setting F A) (es fs : List Entry) (incarn
 is_done-same s es fs incarnation post h (inl stopped) =
     inl (subst (λ part. is_stopped post.actor part ≡ true) h stopped)
 is_done-same s es fs incarnation post h (inr done) =
-    inr (subst (IsBelowStop post.actor) h done.0,
-        all_ended-same s incarnation es fs (offers_at s incarnation post) h done.1)
+    inr (
+      subst (IsBelowStop post.actor) h done.0,
+      all_ended-same s incarnation es fs (offers_at s incarnation post) h done.1,
+    )
 
 -- what actors took depends on their parts alone
 taken_on-same : {F A : Type 0} (s : Setting F A) (es fs : List Entry) (incarnation : ℕ) (places : ℕ → ℕ) (lane : ℕ)
@@ -78,11 +82,11 @@ taken_on-same : {F A : Type 0} (s : Setting F A) (es fs : List Entry) (incarnati
 taken_on-same s es fs incarnation places lane [] h = refl
 taken_on-same s es fs incarnation places lane (actor ∷ actors) h =
     ap (λ p. (if is_on lane actor then length (taken_of actor p
-        (offers_of s incarnation (at_lane places actor) actor)) else 0) + taken_on s es
-        (incarnation + 1) places lane actors)
+    (offers_of s incarnation (at_lane places actor) actor)) else 0) + taken_on s es
+    (incarnation + 1) places lane actors)
     (h incarnation (omega arith))
     ∙ ap (λ n. (if is_on lane actor then length (taken_of actor (part_of incarnation fs)
-        (offers_of s incarnation (at_lane places actor) actor)) else 0) + n)
+    (offers_of s incarnation (at_lane places actor) actor)) else 0) + n)
     (taken_on-same s es fs (incarnation + 1) places lane actors (λ i l. h i (omega arith)))
 
 -- and so does how far lanes have come
@@ -158,9 +162,15 @@ split_of_part incarnation (f ∷ m) [] rest e h =
           (split_of_part incarnation m [] rest e (sym (part_of-other incarnation f m n) ∙ h))
       | inl mine ↦
           let q : (f ≡ e) × (part_of incarnation m ≡ rest) =
-              cons_parts f e (part_of incarnation m) rest (sym (part_of-own incarnation f m mine) ∙ h) in
-          record { before = []; later = m; whole = ap (λ x. x ∷ m) q.0; part = refl; mine =
-              ap (λ x. x.incarnation) (sym q.0) ∙ mine }
+          cons_parts f e (part_of incarnation m) rest (sym (part_of-own incarnation f m mine) ∙ h) in
+          record {
+            before = [];
+            later = m;
+            whole = ap (λ x. x ∷ m) q.0;
+            part = refl;
+            mine =
+                ap (λ x. x.incarnation) (sym q.0) ∙ mine;
+          }
     ]
 split_of_part incarnation (f ∷ m) (x ∷ own) rest e h =
     elim (cases_eq f.incarnation incarnation) [
@@ -168,7 +178,7 @@ split_of_part incarnation (f ∷ m) (x ∷ own) rest e h =
           (split_of_part incarnation m (x ∷ own) rest e (sym (part_of-other incarnation f m n) ∙ h))
       | inl mine ↦
           let q : (f ≡ x) × (part_of incarnation m ≡ own ++ e ∷ rest) =
-              cons_parts f x (part_of incarnation m) (own ++ e ∷ rest) (sym (part_of-own incarnation f m mine) ∙ h) in
+          cons_parts f x (part_of incarnation m) (own ++ e ∷ rest) (sym (part_of-own incarnation f m mine) ∙ h) in
           let k : IsSplit incarnation m own e = split_of_part incarnation m own rest e q.1 in
           record {
             before = f ∷ k.before;
@@ -185,4 +195,4 @@ pub part_at : (before later : List Entry) (e : Entry) (j : List Entry) → j ≡
 part_at before later e j h =
     ap (part_of e.incarnation) h
     ∙ (part_of-append e.incarnation before (e ∷ later)
-        ∙ ap (λ l. part_of e.incarnation before ++ l) (part_of-own e.incarnation e later refl))
+    ∙ ap (λ l. part_of e.incarnation before ++ l) (part_of-own e.incarnation e later refl))

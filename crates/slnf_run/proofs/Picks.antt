@@ -8,7 +8,7 @@ pub picks_none : {Y : Type 0} (f : ℕ → Option Y) (a n : ℕ) → ((d : ℕ) 
 picks_none f a zero none = refl
 picks_none f a (suc n) none =
     rw (none a (omega arith) (omega arith)) (picks_none f (a + 1) n
-        (λ d low high. none d (omega arith) (omega arith)))
+    (λ d low high. none d (omega arith) (omega arith)))
 
 -- what is picked at one place alone isn't picked elsewhere
 not_elsewhere : {Y : Type 0} (f : ℕ → Option Y) (d b : ℕ) → ((c : ℕ) (x : Y) → f c ≡ Some x → c ≡ d) → d < b →
@@ -31,5 +31,5 @@ picks_one {Y = Y} f a (suc n) d y low high there only =
         filter_map f (range_with_len a (suc n)) ≡ y ∷ []
     go (inl same) later =
         rw (ap f same ∙ there, picks_none f (a + 1) n (λ b l h. not_elsewhere f d b only (omega arith) (f b) refl))
-            refl
+        refl
     go (inr h) later = here h later (f a) refl

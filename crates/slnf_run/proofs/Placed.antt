@@ -25,14 +25,14 @@ pub box_verdict : {F A C : Type 0} (s : Scene F A) (box : Box A C) (Same : C →
 box_verdict s box Same es d x p steady own explained decided at =
     let n : ℕ = s.place es d x.first x.verdict in
     let visit : visit_by s es (s.place es d x.first x.verdict) p d
-        ≡ Some (record { arrival = s.arrival x.first p; verdict = Some x.verdict }) =
+    ≡ Some (record { arrival = s.arrival x.first p; verdict = Some x.verdict }) =
     rw (decided, eq-eqb (s.place es d x.first x.verdict) (s.place es d x.first x.verdict) refl) refl in
     let one : visits_of s es (s.place es d x.first x.verdict) p ≡ map removal (s.removals p)
-        ++ record { arrival = s.arrival x.first p; verdict = Some x.verdict } ∷ [] =
+    ++ record { arrival = s.arrival x.first p; verdict = Some x.verdict } ∷ [] =
     one_visit s es (s.place es d x.first x.verdict) p d _ steady own at visit in
     (agrees_back box _ (map removal (s.removals p)) _
-        (subst (Agrees box (content_after s box es (s.place es d x.first x.verdict))) one
-        (explained.verdicts (s.place es d x.first x.verdict) p at))).0
+    (subst (Agrees box (content_after s box es (s.place es d x.first x.verdict))) one
+    (explained.verdicts (s.place es d x.first x.verdict) p at))).0
 
 -- Packets with one place are one.
 pub one_place : {F A : Type 0} (s : Scene F A) (es : List Entry) (d b : ℕ) (x y : Decision F) (p : Entry) →

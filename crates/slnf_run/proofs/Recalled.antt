@@ -24,6 +24,6 @@ recalled es rises legal before later e split =
         let front : RisesOnKeys before = rises-front before (e ∷ later) (subst RisesOnKeys split rises) in
         let law : IsLegal before = legal-front empty before (e ∷ later) (subst IsLegal split legal) in
         let here : IsRecalled (map_after empty (xs ++ f ∷ ys)) f =
-          λ value version held reply cells same.
-          found_stays xs ys f value version held (subst RisesOnKeys w front) (subst IsLegal w law) reply cells same in
+        λ value version held reply cells same.
+        found_stays xs ys f value version held (subst RisesOnKeys w front) (subst IsLegal w law) reply cells same in
         subst (λ zs. IsRecalled (map_after empty zs) f) (sym w) here

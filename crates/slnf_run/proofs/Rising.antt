@@ -22,7 +22,7 @@ pub rises_of_item : (incarnation item : ℕ) (es : List Entry) →
     Pairs (λ e f. e.incarnation ≡ f.incarnation → e.stamp < f.stamp) es → Pairs (Rises (is_of incarnation item)) es
 rises_of_item incarnation item es h =
     pairs-weaker (λ e f. e.incarnation ≡ f.incarnation → e.stamp < f.stamp)
-        (Rises (is_of incarnation item)) rises es h
+    (Rises (is_of incarnation item)) rises es h
   where
     same : (e f : Entry) → IsTrue (is_of incarnation item e) → IsTrue (is_of incarnation item f) → e.incarnation
         ≡ f.incarnation
@@ -37,7 +37,7 @@ pub key_stamps_rise : (shards : ℕ) (es : List Entry) → AllByRecursion (λ e.
     Pairs (λ e f. key_of e.request ≡ key_of f.request → e.stamp < f.stamp) es
 key_stamps_rise shards es own rise =
     pairs-both (λ e f. (e.shard ≡ key_of e.request % shards) × (f.shard ≡ key_of f.request % shards)) (λ e f. e.shard
-        ≡ f.shard → e.stamp < f.stamp)
+    ≡ f.shard → e.stamp < f.stamp)
     (λ e f. key_of e.request ≡ key_of f.request → e.stamp < f.stamp)
     (λ e f a k q. k (a.0 ∙ (ap (λ n. n % shards) q ∙ sym a.1))) es
     (pairs_of_each (λ e. e.shard ≡ key_of e.request % shards) es own) rise

@@ -40,9 +40,9 @@ by_batch-same : {F A : Type 0} (s : Setting F A) (m j : List Entry) → ((i : �
 by_batch-same s m j same rule before later e post h at =
     let split : IsSplit e.incarnation m (part_of e.incarnation before) e =
     split_of_part e.incarnation m (part_of e.incarnation before) (part_of e.incarnation later) e (same e.incarnation
-        ∙ part_at before later e j h) in
+    ∙ part_at before later e j h) in
     earlier_ended-same s e.incarnation split.before before (batch_of e.item (offers_at s e.incarnation post))
-        (offers_at s e.incarnation post) split.part
+    (offers_at s e.incarnation post) split.part
     (rule split.before split.later e post split.whole at)
 
 -- these rules hold of each list with the same parts and no other entries
@@ -55,16 +55,16 @@ loose-same s m j same each h =
           (subst (λ ps. AllByRecursion (λ e. e.incarnation < length ps) m) posts h.of_actors);
       paths = λ incarnation item.
           subst (λ part. IsPath (s.scene.machine incarnation) (s.scene.begins incarnation item) (of_item item part))
-              (same incarnation) (h.paths incarnation item);
+          (same incarnation) (h.paths incarnation item);
       done = λ incarnation post at.
           is_done-same s m j incarnation post (same incarnation)
-              (h.done incarnation post (ap (λ ps. slice_get ps incarnation) posts ∙ at));
+          (h.done incarnation post (ap (λ ps. slice_get ps incarnation) posts ∙ at));
       offered = λ incarnation post at.
           subst (AllByRecursion (λ e. IsOffered e.item (offers_at s incarnation post))) (same incarnation)
           (h.offered incarnation post (ap (λ ps. slice_get ps incarnation) posts ∙ at));
       by_batch = λ before later e post w at.
           by_batch-same s m j same h.by_batch before later e post w (ap (λ ps. slice_get ps e.incarnation) posts
-              ∙ at);
+          ∙ at);
     }
 
 -- the posts are those of the accesses
@@ -78,7 +78,7 @@ pub run_in_order : {F A : Type 0} (s : Setting F A) (m : List Entry) → AllByRe
 run_in_order s m l made h =
     let order : IsOrderOf (era_of s.eras) m (in_order m) = made_in_order (era_of s.eras) s.shards m made in
     let loose : IsLooseRun s (in_order m) = loose-same s m (in_order m) (λ i. sym (order.parts i))
-        (λ P k. each-in_order P m k) h in
+    (λ P k. each-in_order P m k) h in
     record {
       in_order = order.ordered;
       in_shards = each-in_order (IsInShard s.shards) m (made_each_in_shard (era_of s.eras) s.shards [] m l made);

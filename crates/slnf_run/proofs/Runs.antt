@@ -48,7 +48,7 @@ pub run_explained : {F A C : Type 0} (s : Setting F A) (box : Box A C) (Same : C
     Keeps s.scene box Same Recalled → IsRun s j → IsExplained s.scene box Same j
 run_explained s box Same j keeps run =
     recalled_explained s.scene box Same j keeps (rises_in_order s.shards j run.in_order run.in_shards) run.legal
-        (paths_of_run s j run)
+    (paths_of_run s j run)
 
 -- the decision at an entry, by where its item stands
 decision_of_entry : {F A : Type 0} (s : Scene F A) (es before later : List Entry) (e : Entry) → es ≡ before
@@ -56,9 +56,9 @@ decision_of_entry : {F A : Type 0} (s : Scene F A) (es before later : List Entry
     ≡ decision_of (s.begins e.incarnation e.item) (decided_by s before e)
 decision_of_entry s es before later e split =
     ap (option_and_then (λ f. decision_of (s.begins f.incarnation f.item) (decided_by s (take (length before) es) f)))
-        (ap (λ xs. slice_get xs (length before)) split ∙ slice_get-split before later e)
+    (ap (λ xs. slice_get xs (length before)) split ∙ slice_get-split before later e)
     ∙ ap (λ xs. decision_of (s.begins e.incarnation e.item) (decided_by s xs e)) (ap (take (length before)) split
-        ∙ take-append_seam before (e ∷ later))
+    ∙ take-append_seam before (e ∷ later))
 
 -- A verdict that an item comes to, and that wasn't decided at first, was decided at an entry.
 pub was_decided : {F A : Type 0} (s : Scene F A) (es : List Entry) (i k : ℕ) (first : F) (v : Verdict) →
@@ -96,17 +96,27 @@ was_decided {F = F} s es i k first v steady begins unmade now =
         go None w = inl w
         go (Some u) w =
             let stepped : decided_at (s.machine e.incarnation)
-                (stand_step (s.machine e.incarnation) (stand_of s e.incarnation e.item before) e) ≡ Some u =
-                ap (decided_at (s.machine e.incarnation)) (sym (stand_of-own s before e)) ∙ w in
+            (stand_step (s.machine e.incarnation) (stand_of s e.incarnation e.item before) e) ≡ Some u =
+            ap (decided_at (s.machine e.incarnation)) (sym (stand_of-own s before e)) ∙ w in
             let newly_so : decided_by s before e ≡ Some u =
-                ap (λ o. newly o (decided_at (s.machine e.incarnation)
-                (stand_step (s.machine e.incarnation) (stand_of s e.incarnation e.item before) e))) none ∙ stepped in
-            inr (u, length before, w, decision_of_entry s es before later e split
-                ∙ ap (λ st. decision_of st (decided_by s before e)) begins ∙ ap (decision_of (Flies first)) newly_so)
+            ap (λ o. newly o (decided_at (s.machine e.incarnation)
+            (stand_step (s.machine e.incarnation) (stand_of s e.incarnation e.item before) e))) none ∙ stepped in
+            inr (
+              u,
+              length before,
+              w,
+              decision_of_entry s es before later e split
+                  ∙ ap (λ st. decision_of st (decided_by s before e)) begins ∙ ap (decision_of (Flies first)) newly_so,
+            )
     mine before later e split begins (inr r) =
-        inr (r.0, r.1, ap (decided_at (s.machine e.incarnation)) (stand_of-own s before e)
-            ∙ steady_step (s.machine e.incarnation) (steady e.incarnation)
-            (stand_of s e.incarnation e.item before) e r.0 r.2, r.3)
+        inr (
+          r.0,
+          r.1,
+          ap (decided_at (s.machine e.incarnation)) (stand_of-own s before e)
+              ∙ steady_step (s.machine e.incarnation) (steady e.incarnation)
+              (stand_of s e.incarnation e.item before) e r.0 r.2,
+          r.3,
+        )
 
     step : (before later : List Entry) (e : Entry) → es ≡ before ++ e ∷ later → Far i k before →
         Far i k (before ++ e ∷ [])
@@ -115,14 +125,14 @@ was_decided {F = F} s es i k first v steady begins unmade now =
         go : (b : Bool) → is_of i k e ≡ b → Far i k (before ++ e ∷ [])
         go true w =
             let parts : ((e.incarnation == i) ≡ true) × ((e.item == k) ≡ true) =
-                and_parts (e.incarnation == i) (e.item == k) w in
+            and_parts (e.incarnation == i) (e.item == k) w in
             subst₂ (λ a b. s.begins a b ≡ Flies first → Far a b before → Far a b (before ++ e ∷ []))
-                (eqb-true e.incarnation i parts.0) (eqb-true e.item k parts.1) (mine before later e split) begins far
+            (eqb-true e.incarnation i parts.0) (eqb-true e.item k parts.1) (mine before later e split) begins far
         go false w =
             let same : own_of i k (before ++ e ∷ []) ≡ own_of i k before = filter-append (is_of i k) before (e ∷ [])
-                ∙ ap (λ b. own_of i k before ++ cond b (e ∷ []) []) w ∙ append-nil (own_of i k before) in
+            ∙ ap (λ b. own_of i k before ++ cond b (e ∷ []) []) w ∙ append-nil (own_of i k before) in
             let stands : stand_of s i k (before ++ e ∷ []) ≡ stand_of s i k before =
-                ap (stand_after (s.machine i) (s.begins i k)) same in
+            ap (stand_after (s.machine i) (s.begins i k)) same in
             stay (ap (decided_at (s.machine i)) stands) far
           where
             stay : decided_at (s.machine i) (stand_of s i k (before ++ e ∷ []))
@@ -138,8 +148,8 @@ counted_ended m st k false part v h = h
 counted_ended m st k true part v h =
     let n : ℕ = length part - 1 in
     let whole : of_item k part ≡ of_item k (take n part) ++ of_item k (drop n part) =
-        ap (of_item k) (sym (take-append-drop n part))
-        ∙ filter-append (λ e. e.item == k) (take n part) (drop n part) in
+    ap (of_item k) (sym (take-append-drop n part))
+    ∙ filter-append (λ e. e.item == k) (take n part) (drop n part) in
     ap (stand_after m st) whole
     ∙ stand_after-append m st (of_item k (take n part)) (of_item k (drop n part))
     ∙ ap (λ now. stand_after m now (of_item k (drop n part))) h
@@ -161,7 +171,7 @@ written {F = F} s j i k post first steady begins unmade =
     go (Ends None) w = inl refl
     go (Ends (Some v)) w =
         let whole : stand_of s.scene i k j ≡ Ends (Some v) =
-            ap (stand_after (s.scene.machine i) (s.scene.begins i k)) (sym (own_in_part i k j))
-            ∙ counted_ended (s.scene.machine i) (s.scene.begins i k) k (is_stopped post.actor (part_of i j))
-            (part_of i j) (Some v) w in
+        ap (stand_after (s.scene.machine i) (s.scene.begins i k)) (sym (own_in_part i k j))
+        ∙ counted_ended (s.scene.machine i) (s.scene.begins i k) k (is_stopped post.actor (part_of i j))
+        (part_of i j) (Some v) w in
         inr (was_decided s.scene j i k first v steady begins unmade (ap (decided_at (s.scene.machine i)) whole))

@@ -38,7 +38,7 @@ module _ {F A : Type 0} (s : Setting F A) (way : Way) where
   idle_turns base places era [] es h = refl
   idle_turns base places era (number ∷ numbers) es h =
       let e : turn s way base places era es number ≡ es =
-        idle_turn base places era.actors es number (slice_get era.actors number) h refl in
+      idle_turn base places era.actors es number (slice_get era.actors number) h refl in
       ap (turns s way base places era numbers) e ∙ idle_turns base places era numbers es h
 
   -- the list after the schedule's numbers and so many rounds

@@ -25,14 +25,14 @@ pub makes_laid : {F A : Type 0} (s : Setting F A) (way : Way) → IsLawful (era_
     Makes s way 0 (λ lane. 0) s.eras [] m → Grown (IsLaid (era_of s.eras) s.shards) [] m
 makes_laid s way lawful m h =
     grown_weaker (IsNext s (posts_of s m)) (IsLaid (era_of s.eras) s.shards) (λ es e k. k.made) [] m
-        (makes_run s way lawful m h).0
+    (makes_run s way lawful m h).0
 
 -- and keeps the rules of runs that don't speak of an order over all incarnations
 pub makes_loose : {F A : Type 0} (s : Setting F A) (way : Way) → IsLawful (era_of s.eras) way → (m : List Entry) →
     Makes s way 0 (λ lane. 0) s.eras [] m → IsLooseRun s m
 makes_loose s way lawful m h =
     let both : Grown (IsNext s (posts_of s m)) [] m × EveryAt (IsDone s m) 0 (posts_of s m) =
-        makes_run s way lawful m h in
+    makes_run s way lawful m h in
     loose_of_own s m (own_run_of_grown s (posts_of s m) m both.0 both.1)
 
 -- its accesses have the way's stamps
@@ -48,7 +48,7 @@ stamped_from s way (era ∷ eras) base places es m h =
     let after : List Entry = turns s way base places era (era.schedule ++ repeat h.0 (round era)) es in
     extends_then (IsStamped way.stamp) es after m
     (turns_reach s way base places era (λ es. Unit {0}) (IsStamped way.stamp) (era.schedule
-        ++ repeat h.0 (round era)) es (stamped_kept s way base places era.actors) tt).extends
+    ++ repeat h.0 (round era)) es (stamped_kept s way base places era.actors) tt).extends
     (stamped_from s way eras (base + length era.actors) (places_after s after base places era) after m h.1.1)
 
 pub makes_stamped : {F A : Type 0} (s : Setting F A) (way : Way) (m : List Entry) →
@@ -62,7 +62,7 @@ short_stamps : (epoch : ℕ → ℕ) (way : Way) → IsLawful epoch way → (m :
     Grown (IsStamped way.stamp) [] m → AllByRecursion (λ e. e.stamp < 2 ^ 62) m
 short_stamps epoch way lawful m l h =
     each-weaker (λ e. e.stamp ≤ 0 + length m) (λ e. e.stamp < 2 ^ 62) (λ e k. let n : e.stamp ≤ 0 + length m = k in
-        omega arith) m (stamps_within epoch way lawful [] m tt h).0
+    omega arith) m (stamps_within epoch way lawful [] m tt h).0
 
 -- the journal of a setting's schedule is a run of the setting
 pub scheduled_is_run : {F A : Type 0} (s : Setting F A) (way : Way) → IsLawful (era_of s.eras) way →
@@ -70,8 +70,8 @@ pub scheduled_is_run : {F A : Type 0} (s : Setting F A) (way : Way) → IsLawful
 scheduled_is_run s way lawful j h l =
     subst (IsRun s) (sym h.sorted)
     (run_in_order s h.accesses (short_stamps (era_of s.eras) way lawful h.accesses
-        (subst (λ n. n < 2 ^ 62) (ap length h.sorted ∙ length-in_order h.accesses) l)
-        (makes_stamped s way h.accesses h.made))
+    (subst (λ n. n < 2 ^ 62) (ap length h.sorted ∙ length-in_order h.accesses) l)
+    (makes_stamped s way h.accesses h.made))
     (makes_laid s way lawful h.accesses h.made) (makes_loose s way lawful h.accesses h.made))
 
 -- what grew by the rule of runs in any order of its accesses, and leaves each actor with its work done, is a run when
@@ -80,15 +80,16 @@ pub run_of_grown : {F A : Type 0} (s : Setting F A) (m : List Entry) → AllByRe
     Grown (IsNext s (posts_of s m)) [] m → EveryAt (IsDone s m) 0 (posts_of s m) → IsRun s (in_order m)
 run_of_grown s m l grown done =
     run_in_order s m l (grown_weaker (IsNext s (posts_of s m)) (IsLaid (era_of s.eras) s.shards)
-        (λ es e k. k.made) [] m grown)
+    (λ es e k. k.made) [] m grown)
     (loose_of_own s m (own_run_of_grown s (posts_of s m) m grown done))
 
 made_of_laid : (eras : List Era) (shards : ℕ) (es tail : List Entry) → Grown (IsLaid (era_of eras) shards) es tail →
     Grown (IsStamped (stamp_after eras)) es tail → Grown (IsMade (era_of eras) shards) es tail
 made_of_laid eras shards es [] h k = tt
-made_of_laid eras shards es (e ∷ tail) h k =
-    (record { stamp = k.0; shard = h.0.shard; reply = h.0.reply; epochs = h.0.epochs },
-        made_of_laid eras shards (es ++ e ∷ []) tail h.1 k.1)
+made_of_laid eras shards es (e ∷ tail) h k = (
+  record { stamp = k.0; shard = h.0.shard; reply = h.0.reply; epochs = h.0.epochs },
+  made_of_laid eras shards (es ++ e ∷ []) tail h.1 k.1,
+)
 
 -- the journal read in order is one of accesses as they are made: its stamps are those that its own entries give
 pub scheduled_made : {F A : Type 0} (s : Setting F A) (j : List Entry) → IsScheduled s (usual_way s.eras) j →
@@ -97,4 +98,4 @@ scheduled_made s j h =
     subst (Grown (IsMade (era_of s.eras) s.shards) []) (sym h.sorted)
     (in_order_made (era_of s.eras) s.shards h.accesses
     (made_of_laid s.eras s.shards [] h.accesses (makes_laid s (usual_way s.eras)
-        (usual_lawful s.eras) h.accesses h.made) (makes_stamped s (usual_way s.eras) h.accesses h.made)))
+    (usual_lawful s.eras) h.accesses h.made) (makes_stamped s (usual_way s.eras) h.accesses h.made)))

@@ -159,7 +159,7 @@ epochs_rise-in_order epoch es rise above apart =
     pairs-both Both Precedes (λ e f. epoch e.incarnation ≤ epoch f.incarnation) fits (in_order es)
     (symmetric-in_order Both (λ e f h. (h.1, h.0)) es
     (pairs-both (λ e f. epoch e.incarnation ≤ epoch f.incarnation) Up Both
-        (λ e f l u. (u, λ m. absurd (clash e f l m))) es rise above))
+    (λ e f l u. (u, λ m. absurd (clash e f l m))) es rise above))
     (in_order-pairs es apart)
   where
     clash : (e f : Entry) → epoch e.incarnation ≤ epoch f.incarnation → epoch f.incarnation < epoch e.incarnation → ⊥

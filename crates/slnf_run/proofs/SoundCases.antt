@@ -39,21 +39,21 @@ module _ {F G A B : Type 0} (c : Case F G A B) where
     steady = λ i. case_steady c (s.scene.machine i) (sound.steady i);
     undecided = λ i k first h.
         let r : (own : F) × (s.scene.begins i k ≡ Flies own) × (c.into own ≡ first) =
-            flies_as c.into (s.scene.begins i k) first h in
+        flies_as c.into (s.scene.begins i k) first h in
         ap (case_machine c (s.scene.machine i)).decided (sym r.2) ∙ (machine_image c (s.scene.machine i)).decided r.0
-            ∙ sound.undecided i k r.0 r.1;
+        ∙ sound.undecided i k r.0 r.1;
     ends_well = λ i lane k actor own at on size can.
         subst EndsWell (sym (after (s.scene.machine i) (s.scene.begins i k) own))
         (well_as c.into (stand_after (s.scene.machine i) (s.scene.begins i k) own)
-            (sound.ends_well i lane k actor own at on size
-            (can_as (s.scene.machine i) (s.scene.begins i k) own can)));
+        (sound.ends_well i lane k actor own at on size
+        (can_as (s.scene.machine i) (s.scene.begins i k) own can)));
     begins_dropped = λ i lane k actor verdict at on size ends.
         sound.begins_dropped i lane k actor verdict at on size
-            (ends_as c.into (s.scene.begins i k) (Some verdict) ends);
+        (ends_as c.into (s.scene.begins i k) (Some verdict) ends);
     sweeps = λ i k actor own at none can.
         ap (decided_at (case_machine c (s.scene.machine i))) (after (s.scene.machine i) (s.scene.begins i k) own)
         ∙ decided_as c.into (s.scene.machine i) (case_machine c (s.scene.machine i))
-            (machine_image c (s.scene.machine i)) (stand_after (s.scene.machine i) (s.scene.begins i k) own)
+        (machine_image c (s.scene.machine i)) (stand_after (s.scene.machine i) (s.scene.begins i k) own)
         ∙ sound.sweeps i k actor own at none (can_as (s.scene.machine i) (s.scene.begins i k) own can);
     lanes_once = sound.lanes_once;
   }

@@ -13,9 +13,16 @@ pub split_at : {X : Type 0} (xs : List X) (t : ℕ) → t < length xs → (x : X
 split_at [] t h = absurd (omega arith)
 split_at (x ∷ xs) zero h = (x, record { at = refl; whole = refl; front = refl; size = refl })
 split_at (x ∷ xs) (suc t) h =
-    let r : (y : _) × IsSplit xs t y = split_at xs t (le_of_suc-le-suc h) in
-    (r.0, record { at = r.1.at; whole = ap (λ ys. x ∷ ys) r.1.whole; front = ap (λ ys. x ∷ ys) r.1.front; size =
-        ap suc r.1.size })
+    let r : (y : _) × IsSplit xs t y = split_at xs t (le_of_suc-le-suc h) in (
+      r.0,
+      record {
+        at = r.1.at;
+        whole = ap (λ ys. x ∷ ys) r.1.whole;
+        front = ap (λ ys. x ∷ ys) r.1.front;
+        size =
+            ap suc r.1.size;
+      },
+    )
 
 -- the element behind a front
 pub slice_get-split : {X : Type 0} (xs ys : List X) (x : X) → slice_get (xs ++ x ∷ ys) (length xs) ≡ Some x

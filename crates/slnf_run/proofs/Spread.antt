@@ -63,7 +63,7 @@ module _ (epoch : ℕ → ℕ) where
       pairs-both Both Precedes (λ e f. epoch e.incarnation ≤ epoch f.incarnation) fits (in_order m)
       (symmetric-in_order Both (λ e f h. (h.1, h.0)) m
       (pairs-both (λ e f. epoch e.incarnation ≤ epoch f.incarnation) (IsBehind epoch) Both
-          (λ e f l b. (λ u. b (before_epoch e f u), λ u. absurd (clash e f l u))) m rise behind))
+      (λ e f l b. (λ u. b (before_epoch e f u), λ u. absurd (clash e f l u))) m rise behind))
       ordered
     where
       clash : (e f : Entry) → epoch e.incarnation ≤ epoch f.incarnation → epoch f.incarnation < epoch e.incarnation →
@@ -81,17 +81,17 @@ module _ (epoch : ℕ → ℕ) where
   pub order_of_spread : (shards : ℕ) (m : List Entry) → IsSpread epoch shards m → IsOrderOf epoch m (in_order m)
   order_of_spread shards m h =
       let shard : Pairs (λ e f. e.shard ≡ f.shard → e.stamp < f.stamp) m =
-          pairs-weaker (IsBehind epoch) (λ e f. e.shard ≡ f.shard → e.stamp < f.stamp)
-          (λ e f k q. strict e f q (k (before_shard e f q))) m h.behind in
+      pairs-weaker (IsBehind epoch) (λ e f. e.shard ≡ f.shard → e.stamp < f.stamp)
+      (λ e f k q. strict e f q (k (before_shard e f q))) m h.behind in
       let keyed : Pairs (λ e f. key_of e.request ≡ key_of f.request → Precedes e f) m =
       pairs-both (λ e f. (e.shard ≡ key_of e.request % shards) × (f.shard ≡ key_of f.request % shards))
-          (IsBehind epoch) (λ e f. key_of e.request ≡ key_of f.request → Precedes e f)
+      (IsBehind epoch) (λ e f. key_of e.request ≡ key_of f.request → Precedes e f)
       (λ e f a k q. k (before_shard e f (a.0 ∙ (ap (λ n. n % shards) q ∙ sym a.1)))) m
-          (pairs_of_each (λ e. e.shard ≡ key_of e.request % shards) m h.own) h.behind in
+      (pairs_of_each (λ e. e.shard ≡ key_of e.request % shards) m h.own) h.behind in
       let keys : (k : ℕ) → filter_of_key k (in_order m) ≡ filter_of_key k m =
       λ k. filter-in_order (λ e. key_of e.request == k) m
-          (pairs-weaker (λ e f. key_of e.request ≡ key_of f.request → Precedes e f)
-          (Rises (λ e. key_of e.request == k)) (λ e f r p q. r (eqb-true _ _ p ∙ sym (eqb-true _ _ q))) m keyed) in
+      (pairs-weaker (λ e f. key_of e.request ≡ key_of f.request → Precedes e f)
+      (Rises (λ e. key_of e.request == k)) (λ e f r p q. r (eqb-true _ _ p ∙ sym (eqb-true _ _ q))) m keyed) in
       record {
         ordered = in_order-ordered m (apart_of_rises m shard);
         shards = λ k. filter-in_order (λ e. e.shard == k) m
@@ -116,7 +116,7 @@ pub run_of_spread : {F A : Type 0} (s : Setting F A) (m : List Entry) → IsSpre
 run_of_spread s m spread shards h =
     let order : IsOrderOf (era_of s.eras) m (in_order m) = order_of_spread (era_of s.eras) s.shards m spread in
     let loose : IsLooseRun s (in_order m) = loose-same s m (in_order m) (λ i. sym (order.parts i))
-        (λ P k. each-in_order P m k) h in
+    (λ P k. each-in_order P m k) h in
     record {
       in_order = order.ordered;
       in_shards = each-in_order (IsInShard s.shards) m shards;

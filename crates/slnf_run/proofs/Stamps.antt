@@ -58,7 +58,7 @@ pub epochs_rise : (epoch : ℕ → ℕ) (shards : ℕ) (m : List Entry) → Grow
 epochs_rise epoch shards m h =
     (pairs_of_grown (λ e f. epoch e.incarnation ≤ epoch f.incarnation) [] m
     (grown-weaker (IsLaid epoch shards) (λ es e. AllByRecursion (λ x. epoch x.incarnation ≤ epoch e.incarnation) es)
-        (λ es e k. k.epochs) [] m h)).1
+    (λ es e k. k.epochs) [] m h)).1
 
 before_shard : (epoch : ℕ → ℕ) (e f : Entry) → e.shard ≡ f.shard → IsTrue (is_before epoch f.incarnation f.shard e)
 before_shard epoch e f h = grind (arith, nat_tests)
@@ -98,19 +98,22 @@ stamps_within epoch way lawful es [] h k = (tt, tt)
 stamps_within epoch way lawful es (e ∷ tail) h k =
     let low : way.stamp es e.incarnation e.shard ≤ length es + 1 = lawful.within es e.incarnation e.shard h in
     let high : greatest (is_before epoch e.incarnation e.shard) es < way.stamp es e.incarnation e.shard =
-        lawful.above es e.incarnation e.shard h in
+    lawful.above es e.incarnation e.shard h in
     let stamp : e.stamp ≡ way.stamp es e.incarnation e.shard = k.0 in
     let size : length (es ++ e ∷ []) ≡ length es + 1 = length-append es (e ∷ []) in
     let more : AllByRecursion (λ x. x.stamp ≤ length (es ++ e ∷ [])) (es ++ e ∷ []) =
     each-push (λ x. x.stamp ≤ length (es ++ e ∷ [])) es e
     (each-weaker (λ x. x.stamp ≤ length es) (λ x. x.stamp ≤ length (es ++ e ∷ []))
-        (λ x l. let n : x.stamp ≤ length es = l in omega arith) es h) (omega arith) in
+    (λ x l. let n : x.stamp ≤ length es = l in omega arith) es h) (omega arith) in
     let rest : AllByRecursion (λ x. x.stamp ≤ length (es ++ e ∷ []) + length tail) tail
-        × Grown (λ es e. (1 ≤ e.stamp) × (e.stamp ≤ length es + 1)) (es ++ e ∷ []) tail =
+    × Grown (λ es e. (1 ≤ e.stamp) × (e.stamp ≤ length es + 1)) (es ++ e ∷ []) tail =
     stamps_within epoch way lawful (es ++ e ∷ []) tail more k.1 in (
-      (omega arith, each-weaker (λ x. x.stamp ≤ length (es ++ e ∷ []) + length tail)
-          (λ x. x.stamp ≤ length es + length (e ∷ tail))
-          (λ x l. let n : x.stamp ≤ length (es ++ e ∷ []) + length tail = l in omega arith) tail rest.0),
+      (
+        omega arith,
+        each-weaker (λ x. x.stamp ≤ length (es ++ e ∷ []) + length tail)
+            (λ x. x.stamp ≤ length es + length (e ∷ tail))
+            (λ x l. let n : x.stamp ≤ length (es ++ e ∷ []) + length tail = l in omega arith) tail rest.0,
+      ),
       ((omega arith, omega arith), rest.1),
     )
 
@@ -134,9 +137,11 @@ map_after-push es e = λ i key. cell_of-append key None es (e ∷ []) i
 pub made_legal_from : (epoch : ℕ → ℕ) (shards : ℕ) (es tail : List Entry) → Grown (IsLaid epoch shards) es tail →
     IsLegalFrom (map_after empty es) tail
 made_legal_from epoch shards es [] h = tt
-made_legal_from epoch shards es (e ∷ tail) h =
-    (h.0.reply, subst (λ cells. IsLegalFrom cells tail) (map_after-push es e)
-        (made_legal_from epoch shards (es ++ e ∷ []) tail h.1))
+made_legal_from epoch shards es (e ∷ tail) h = (
+  h.0.reply,
+  subst (λ cells. IsLegalFrom cells tail) (map_after-push es e)
+      (made_legal_from epoch shards (es ++ e ∷ []) tail h.1),
+)
 
 -- accesses as they are made are laid
 pub laid_of_made : (epoch : ℕ → ℕ) (shards : ℕ) (es tail : List Entry) → Grown (IsMade epoch shards) es tail →

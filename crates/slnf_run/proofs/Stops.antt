@@ -24,8 +24,8 @@ pub below_stop : (actor : Actor) (part : List Entry) → is_stopped actor part �
     IsBelowStop actor part
 below_stop actor part =
     elim (actor.stop) as (λ stop. is_stopped (record { lane = actor.lane; quota = actor.quota; stop = stop }) part
-        ≡ false → IsWithinStop (record { lane = actor.lane; quota = actor.quota; stop = stop }) part →
-        IsBelowStop (record { lane = actor.lane; quota = actor.quota; stop = stop }) part) [
+    ≡ false → IsWithinStop (record { lane = actor.lane; quota = actor.quota; stop = stop }) part →
+    IsBelowStop (record { lane = actor.lane; quota = actor.quota; stop = stop }) part) [
       | None ↦ λ running h. tt
       | Some stop ↦ λ running h. let k : length part ≡ stop → ⊥ = eqb-false (length part) stop running in omega arith
     ]
@@ -35,7 +35,7 @@ pub within_stop-more : (actor : Actor) (part : List Entry) (e : Entry) → IsBel
     IsWithinStop actor (part ++ e ∷ [])
 within_stop-more actor part e =
     elim (actor.stop) as (λ stop. IsBelowStop (record { lane = actor.lane; quota = actor.quota; stop = stop }) part →
-        IsWithinStop (record { lane = actor.lane; quota = actor.quota; stop = stop }) (part ++ e ∷ [])) [
+    IsWithinStop (record { lane = actor.lane; quota = actor.quota; stop = stop }) (part ++ e ∷ [])) [
       | None ↦ λ h. tt
       | Some stop ↦ λ h. let l : length (part ++ e ∷ []) ≡ length part + 1 = length_push part e in omega arith
     ]

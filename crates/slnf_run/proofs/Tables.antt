@@ -19,8 +19,10 @@ module _ {K V : Type 0} (number : K → ℕ) (Fits : K → Type 0) (value : V �
   -- a map that has the same everywhere has the table
   pub table_stays : (table : K → Option V) (cells next : Cells) → ((k : ℕ) → next k ≡ cells k) →
       IsTable number Fits value table cells → IsTable number Fits value table next
-  table_stays table cells next equal has = record { at_key = λ key fits. has.at_key key fits
-      ∙ ap number_in (sym (equal (number key))) }
+  table_stays table cells next equal has = record {
+    at_key = λ key fits. has.at_key key fits
+        ∙ ap number_in (sym (equal (number key)));
+  }
 
   -- what a key hasn't in the map it hasn't in the table
   pub table_none : (table : K → Option V) (cells : Cells) (key : K) → Fits key →
@@ -67,6 +69,6 @@ module _ {K V : Type 0} (number : K → ℕ) (Fits : K → Type 0) (value : V �
       at other other_fits true w = sym now ∙ ap (λ k. number_in (next (number k))) (sym (keyed.same other key w))
       at other other_fits false w =
           has.at_key other other_fits ∙ ap number_in
-              (sym (stays (number other) (λ h. let one : other ≡ key =
-              sym (keyed.apart key other fits other_fits h) in let yes : is_same other key ≡ true =
-              subst (λ k. is_same other k ≡ true) one (keyed.itself other) in cc)))
+          (sym (stays (number other) (λ h. let one : other ≡ key =
+          sym (keyed.apart key other fits other_fits h) in let yes : is_same other key ≡ true =
+          subst (λ k. is_same other k ≡ true) one (keyed.itself other) in cc)))

@@ -38,8 +38,8 @@ module _ {F A : Type 0} (s : Setting F A) where
       items_of (taken_at s es i post) ≡ range_with_len post.at (length (taken_at s es i post))
   taken_in_row es lane i post on =
       subst (λ offers. items_of (taken_of post.actor (part_of i es) offers)
-          ≡ range_with_len post.at (length (taken_of post.actor (part_of i es) offers)))
-          (sym (offers_on_lane lane i post.at post.actor on))
+      ≡ range_with_len post.at (length (taken_of post.actor (part_of i es) offers)))
+      (sym (offers_on_lane lane i post.at post.actor on))
       (taken_range post.actor (part_of i es) s.batch (key_first i) post.at (offered_count lane post.at post.actor))
 
   -- at most as many as there are
@@ -49,15 +49,15 @@ module _ {F A : Type 0} (s : Setting F A) where
       let count : ℕ = offered_count lane at actor in
       let offers : List Offer = batched s.batch (key_first i) 0 0 [] (range_with_len at count) in
       let f : (k : ℕ) × (taken_of actor (part_of i es) offers ≡ take k offers) =
-          taken_front actor (part_of i es) 0 offers
-          (rises_batched s.batch (key_first i) 0 0 [] (range_with_len at count)) in
+      taken_front actor (part_of i es) 0 offers
+      (rises_batched s.batch (key_first i) 0 0 [] (range_with_len at count)) in
       let size : length offers ≡ count = sym (length-map offers (λ offer. offer.item))
-          ∙ ap length (items_batched s.batch (key_first i) 0 0 [] (range_with_len at count))
-          ∙ length-range_with_len at count in
+      ∙ ap length (items_batched s.batch (key_first i) 0 0 [] (range_with_len at count))
+      ∙ length-range_with_len at count in
       let quota : count ≤ slice_index s.lanes lane - at = quota_most actor.quota (slice_index s.lanes lane - at) in
       let few : length (take f.0 offers) ≤ length offers = length_take f.0 offers in
       let same : length (taken_of actor (part_of i es) (offers_of s i at actor)) ≡ length (take f.0 offers) =
-          ap (λ o. length (taken_of actor (part_of i es) o)) (offers_on_lane lane i at actor on) ∙ ap length f.1 in
+      ap (λ o. length (taken_of actor (part_of i es) o)) (offers_on_lane lane i at actor on) ∙ ap length f.1 in
       omega arith
 
   -- and so packets of the lane alone
@@ -65,8 +65,8 @@ module _ {F A : Type 0} (s : Setting F A) where
       has_item item (taken_at s es i post) ≡ true → item < slice_index s.lanes lane
   taken_inside es lane i item post on took =
       let r : (post.at ≤ item) × (item < post.at + length (taken_at s es i post)) =
-          has_in_range item post.at (length (taken_at s es i post)) (taken_at s es i post)
-          (taken_in_row es lane i post on) took in
+      has_in_range item post.at (length (taken_at s es i post)) (taken_at s es i post)
+      (taken_in_row es lane i post on) took in
       let most : length (taken_at s es i post) ≤ slice_index s.lanes lane - post.at =
-          taken_most es lane i post.at post.actor on in
+      taken_most es lane i post.at post.actor on in
       omega arith

@@ -82,9 +82,9 @@ pub nothing_behind : {F A : Type 0} (s : Scene F A) (i k : ℕ) (es before later
 nothing_behind s i k es before later paths split ended =
     let path : IsPath (s.machine i) (s.begins i k) (own_of i k before ++ own_of i k later) =
     subst (IsPath (s.machine i) (s.begins i k)) (ap (own_of i k) split ∙ filter-append (is_of i k) before later)
-        (paths i k) in
+    (paths i k) in
     no_path (s.machine i) (stand_of s i k before) (own_of i k later) ended
-        (path-back (s.machine i) (s.begins i k) (own_of i k before) (own_of i k later) path)
+    (path-back (s.machine i) (s.begins i k) (own_of i k before) (own_of i k later) path)
 
 last_of-split : (xs ys : List Entry) (e : Entry) → last_of (xs ++ e ∷ ys) ≡ last_of (e ∷ ys)
 last_of-split [] ys e = refl
@@ -109,7 +109,7 @@ own_last : (xs : List Entry) (e : Entry) → of_item e.item (xs ++ e ∷ []) ≡
 own_last xs e h =
     push_no_nil (of_item e.item xs) e
     (ap (λ b. of_item e.item xs ++ cond b (e ∷ []) []) (sym (eq-eqb e.item e.item refl))
-        ∙ sym (filter-append (λ f. f.item == e.item) xs (e ∷ [])) ∙ h)
+    ∙ sym (filter-append (λ f. f.item == e.item) xs (e ∷ [])) ∙ h)
 
 -- an incarnation's part, split at one of its entries
 pub part_split : (before later : List Entry) (e : Entry) (j : List Entry) → j ≡ before ++ e ∷ later →
@@ -118,7 +118,7 @@ part_split before later e j split =
     ap (part_of e.incarnation) split
     ∙ filter-append (λ f. f.incarnation == e.incarnation) before (e ∷ later)
     ∙ ap (λ b. part_of e.incarnation before ++ cond b (e ∷ part_of e.incarnation later) (part_of e.incarnation later))
-        (eq-eqb e.incarnation e.incarnation refl)
+    (eq-eqb e.incarnation e.incarnation refl)
 
 module _ {F A : Type 0} (s : Setting F A) (j : List Entry) (run : IsRun s j) where
   -- the entry's item is offered
@@ -126,9 +126,9 @@ module _ {F A : Type 0} (s : Setting F A) (j : List Entry) (run : IsRun s j) whe
       slice_get (posts_of s j) e.incarnation ≡ Some post → IsOffered e.item (offers_at s e.incarnation post)
   entry_offered before later e post split posted =
       each-at (λ f. IsOffered f.item (offers_at s e.incarnation post)) (part_of e.incarnation before)
-          (part_of e.incarnation later) e
+      (part_of e.incarnation later) e
       (subst (AllByRecursion (λ f. IsOffered f.item (offers_at s e.incarnation post)))
-          (part_split before later e j split) (run.offered e.incarnation post posted))
+      (part_split before later e j split) (run.offered e.incarnation post posted))
 
   -- the last entry of its part is of no earlier batch
   last_batch : (before later : List Entry) (e : Entry) (post : Post) (front : List Entry) (l : Entry) → j ≡ before
@@ -136,25 +136,25 @@ module _ {F A : Type 0} (s : Setting F A) (j : List Entry) (run : IsRun s j) whe
       ++ l ∷ [] → batch_of e.item (offers_at s e.incarnation post) ≤ batch_of l.item (offers_at s e.incarnation post)
   last_batch before later e post front l split posted rest =
       elim (leb_tells (batch_of e.item offers) (batch_of l.item offers)) [
-    | inl at_most ↦ at_most.1
-    | inr above ↦
-        let i : ℕ = e.incarnation in
-        let part : part_of i j ≡ (part_of i before ++ e ∷ front) ++ l ∷ [] = part_split before later e j split
+        | inl at_most ↦ at_most.1
+        | inr above ↦
+            let i : ℕ = e.incarnation in
+            let part : part_of i j ≡ (part_of i before ++ e ∷ front) ++ l ∷ [] = part_split before later e j split
             ∙ ap (λ xs. part_of i before ++ e ∷ xs) rest
             ∙ sym (append_assoc (part_of i before) (e ∷ front) (l ∷ [])) in
-        let l_offered : IsOffered l.item offers = each-at (λ f. IsOffered f.item offers) (part_of i before
+            let l_offered : IsOffered l.item offers = each-at (λ f. IsOffered f.item offers) (part_of i before
             ++ e ∷ front) [] l (subst (AllByRecursion (λ f. IsOffered f.item offers)) part
             (run.offered i post posted)) in
-        let ended : HasEnded (stand_of s.scene i l.item before) =
+            let ended : HasEnded (stand_of s.scene i l.item before) =
             earlier_ended_at s i before (batch_of e.item offers) l.item offers
             (run.by_batch before later e post split posted) l_offered above.1 in
-        let none : own_of i l.item (e ∷ later) ≡ [] =
+            let none : own_of i l.item (e ∷ later) ≡ [] =
             nothing_behind s.scene i l.item j before (e ∷ later) (paths_of_run s j run) split ended in
-        let here : of_item l.item (part_of i (e ∷ later)) ≡ [] = own_in_part i l.item (e ∷ later) ∙ none in
-        let whole : part_of i (e ∷ later) ≡ (e ∷ front) ++ l ∷ [] =
+            let here : of_item l.item (part_of i (e ∷ later)) ≡ [] = own_in_part i l.item (e ∷ later) ∙ none in
+            let whole : part_of i (e ∷ later) ≡ (e ∷ front) ++ l ∷ [] =
             ap (λ b. cond b (e ∷ part_of i later) (part_of i later)) (eq-eqb i i refl) ∙ ap (λ xs. e ∷ xs) rest in
-        absurd (own_last (e ∷ front) l (ap (of_item l.item) (sym whole) ∙ here))
-  ]
+            absurd (own_last (e ∷ front) l (ap (of_item l.item) (sym whole) ∙ here))
+      ]
     where
       offers : List Offer
       offers = offers_at s e.incarnation post

@@ -31,8 +31,11 @@ access_reaches s way base places actors Lasts Q es number actor None kept h k e 
     record { extends = extends_same Q es; lasts = h }
 access_reaches s way base places actors Lasts Q es number actor (Some ask) kept h k e =
     let q : Q es (entry_after s way es (base + number) ask) = kept.allowed es number actor ask h k e in
-    record { extends = extends_one Q es (entry_after s way es (base + number) ask) q; lasts =
-        kept.lasts es (entry_after s way es (base + number) ask) h q }
+    record {
+      extends = extends_one Q es (entry_after s way es (base + number) ask) q;
+      lasts =
+          kept.lasts es (entry_after s way es (base + number) ask) h q;
+    }
 
 turn_reaches : {F A : Type 0} (s : Setting F A) (way : Way) (base : ℕ) (places : ℕ → ℕ) (actors : List Actor)
     (Lasts : List Entry → Type 0) (Q : List Entry → Entry → Type 0) (es : List Entry) (number : ℕ)
@@ -42,7 +45,7 @@ turn_reaches s way base places actors Lasts Q es number None kept h e =
     record { extends = extends_same Q es; lasts = h }
 turn_reaches s way base places actors Lasts Q es number (Some actor) kept h e =
     access_reaches s way base places actors Lasts Q es number actor
-        (wanted s way.comes_before es (base + number) (at_lane places actor) actor) kept h e refl
+    (wanted s way.comes_before es (base + number) (at_lane places actor) actor) kept h e refl
 
 -- turns keep it
 pub turns_reach : {F A : Type 0} (s : Setting F A) (way : Way) (base : ℕ) (places : ℕ → ℕ) (era : Era)
@@ -54,7 +57,7 @@ turns_reach s way base places era Lasts Q (number ∷ numbers) es kept h =
     let one : Reaches Lasts Q es (turn s way base places era es number) =
     turn_reaches s way base places era.actors Lasts Q es number (slice_get era.actors number) kept h refl in
     let rest : Reaches Lasts Q (turn s way base places era es number)
-        (turns s way base places era numbers (turn s way base places era es number)) =
+    (turns s way base places era numbers (turn s way base places era es number)) =
     turns_reach s way base places era Lasts Q numbers (turn s way base places era es number) kept one.lasts in
     record {
       extends = extends_then Q es (turn s way base places era es number)
@@ -82,7 +85,7 @@ pub turns_within : {F A : Type 0} (s : Setting F A) (way : Way) (base : ℕ) (pl
     (turns s way base places era numbers es)
 turns_within s way base places era numbers es =
     (turns_reach s way base places era (λ es. Unit {0}) (λ es e. IsWithin base (length era.actors) e) numbers es
-        (within_kept s way base places era.actors) tt).extends
+    (within_kept s way base places era.actors) tt).extends
 
 -- what epochs make extends the list with which they begin, by entries of their incarnations
 pub makes_from : {F A : Type 0} (s : Setting F A) (way : Way) (eras : List Era) (base : ℕ) (places : ℕ → ℕ)
@@ -93,8 +96,8 @@ makes_from s way (era ∷ eras) base places es m h =
     let after : List Entry = turns s way base places era (era.schedule ++ repeat h.0 (round era)) es in
     extends_then (λ es e. base ≤ e.incarnation) es after m
     (extends_weaker (λ es e. IsWithin base (length era.actors) e) (λ es e. base ≤ e.incarnation)
-        (λ es e k. k.from) es after
+    (λ es e k. k.from) es after
     (turns_within s way base places era (era.schedule ++ repeat h.0 (round era)) es))
     (extends_weaker (λ es e. base + length era.actors ≤ e.incarnation) (λ es e. base ≤ e.incarnation)
-        (λ es e k. let l : base + length era.actors ≤ e.incarnation = k in omega arith) after m
+    (λ es e k. let l : base + length era.actors ≤ e.incarnation = k in omega arith) after m
     (makes_from s way eras (base + length era.actors) (places_after s after base places era) after m h.1.1))

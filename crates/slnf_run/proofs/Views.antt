@@ -59,7 +59,7 @@ module _ {G A B C : Type 0} (view : B → A) (t : Scene G B) (box : Box A C) whe
   visits_view es number e =
       ap₂ (λ xs ys. xs ++ ys) (removals_view (t.removals e)) (picks_view es number e (range_with_len 0 (length es)))
       ∙ sym (map_append (map removal (t.removals e))
-          (filter_map (visit_by t es number e) (range_with_len 0 (length es))))
+      (filter_map (visit_by t es number e) (range_with_len 0 (length es))))
 
   through_view : (c : C) (visits : List (Visit B)) → content_through box c (map visit_view visits)
       ≡ content_through (box_through view box) c visits
@@ -89,6 +89,6 @@ module _ {G A B C : Type 0} (view : B → A) (t : Scene G B) (box : Box A C) whe
     verdicts = λ n e at.
         agrees_view (content_after t (box_through view box) es n) (visits_of t es n e)
         (subst (λ c. Agrees box c (map visit_view (visits_of t es n e))) (content_view es n)
-            (subst (Agrees box (content_after (viewed view t) box es n)) (visits_view es n e) (r.verdicts n e at)));
+        (subst (Agrees box (content_after (viewed view t) box es n)) (visits_view es n e) (r.verdicts n e at)));
     maps = λ n h. subst (λ c. Same c (map_after empty (take n es))) (content_view es n) (r.maps n h);
   }

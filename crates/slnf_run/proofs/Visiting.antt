@@ -49,14 +49,14 @@ pub visit_taken : {F A : Type 0} (s : Setting F A) (j : List Entry) → IsSound 
     × (s.scene.place j decider decision.first decision.verdict ≡ t) × (decision.verdict ≡ verdict)
 visit_taken {F = F} {A = A} s j sound run t e earlier later visit verdict split is =
     let r : (front : List (Visit A)) × (filter_map (visit_by s.scene j t e) (range_with_len 0 (length j)) ≡ front
-        ++ visit ∷ later) =
+    ++ visit ∷ later) =
     behind_removals (s.scene.removals e) (filter_map (visit_by s.scene j t e) (range_with_len 0 (length j))) earlier
-        later visit verdict split is in
+    later visit verdict split is in
     let d : (d : ℕ) × (visit_by s.scene j t e d ≡ Some visit) =
-        picked (visit_by s.scene j t e) (range_with_len 0 (length j)) r.0 later visit r.1 in
+    picked (visit_by s.scene j t e) (range_with_len 0 (length j)) r.0 later visit r.1 in
     let v : IsVisit s.scene j t e d.0 visit = is_visit s.scene j t e d.0 visit d.1 in
     let taken : (lane : ℕ) × Took s j lane v.decider.item v.decider.incarnation =
-        decided_taken s j sound run d.0 v.decider v.decision v.whole.at v.decided in
+    decided_taken s j sound run d.0 v.decider v.decision v.whole.at v.decided in
     let same : v.decision.verdict ≡ verdict = same_Some v.decision.verdict verdict
-        (sym (ap (λ (w : Visit A). w.verdict) v.visit) ∙ is) in
+    (sym (ap (λ (w : Visit A). w.verdict) v.visit) ∙ is) in
     (taken.0, d.0, v.decider, v.decision, v.whole.at, v.decided, taken.1, v.place, same)

@@ -13,7 +13,7 @@ usual_lawful eras = record {
   above = λ es incarnation shard h. omega arith;
   within = λ es incarnation shard h.
       let low : greatest (is_earlier eras incarnation shard) es ≤ length es =
-          greatest_below (is_earlier eras incarnation shard) (length es) es h in omega arith;
+      greatest_below (is_earlier eras incarnation shard) (length es) es h in omega arith;
 }
 
 pub place_lawful : (epoch : ℕ → ℕ) → IsLawful epoch place_way
@@ -22,6 +22,6 @@ place_lawful epoch = record {
   behind = rounds_keep.1;
   above = λ es incarnation shard h.
       let low : greatest (is_before epoch incarnation shard) es ≤ length es =
-          greatest_below (is_before epoch incarnation shard) (length es) es h in omega arith;
+      greatest_below (is_before epoch incarnation shard) (length es) es h in omega arith;
   within = λ es incarnation shard h. omega arith;
 }

@@ -27,9 +27,17 @@ pub places_at_decider : {F A : Type 0} (s : Scene F A) (es : List Entry) →
     HasPlaces s es
 places_at_decider s es here d e decision at decided =
     let p : s.place es d decision.first decision.verdict ≡ d = here es d decision.first decision.verdict in
-    record { first = d; own = e; at = at; incarnation = refl; item = refl; from =
-        (let z : d ≤ s.place es d decision.first decision.verdict = omega arith in z); upto =
-        (let z : s.place es d decision.first decision.verdict ≤ d = omega arith in z) }
+    record {
+      first = d;
+      own = e;
+      at = at;
+      incarnation = refl;
+      item = refl;
+      from =
+          (let z : d ≤ s.place es d decision.first decision.verdict = omega arith in z);
+      upto =
+          (let z : s.place es d decision.first decision.verdict ≤ d = omega arith in z);
+    }
 
 -- an item's first entry doesn't stand behind any other of its entries
 first_upto : (i k : ℕ) (es : List Entry) (n : ℕ) (e : Entry) → slice_get es n ≡ Some e → is_of i k e ≡ true →
@@ -58,16 +66,24 @@ pub places_looking : {F A : Type 0} (s : Scene F A) (looks_back : F → Verdict 
     ≡ looking_back looks_back es number first verdict) → HasPlaces s es
 places_looking {F = F} s looks_back es place_is d e decision at decided =
     let upto : s.place es d decision.first decision.verdict ≤ d =
-        subst (λ n. n ≤ d) (sym (place_is es d decision.first decision.verdict))
-        (go (looks_back decision.first decision.verdict)) in
+    subst (λ n. n ≤ d) (sym (place_is es d decision.first decision.verdict))
+    (go (looks_back decision.first decision.verdict)) in
     let size : d < length es = slice_get_within es d e at in
     let r : (f : Entry) × IsSplit es (s.place es d decision.first decision.verdict) f =
-        split_at es (s.place es d decision.first decision.verdict) (omega arith) in
+    split_at es (s.place es d decision.first decision.verdict) (omega arith) in
     let own : (r.0.incarnation ≡ e.incarnation) × (r.0.item ≡ e.item) =
-        own_looking s looks_back es place_is d e r.0 decision at decided r.1.at in
-    record { first = s.place es d decision.first decision.verdict; own = r.0; at = r.1.at; incarnation = own.0; item =
-        own.1; from = (let z : s.place es d decision.first decision.verdict ≤ s.place es d decision.first
-        decision.verdict = omega arith in z); upto = upto }
+    own_looking s looks_back es place_is d e r.0 decision at decided r.1.at in
+    record {
+      first = s.place es d decision.first decision.verdict;
+      own = r.0;
+      at = r.1.at;
+      incarnation = own.0;
+      item =
+          own.1;
+      from = (let z : s.place es d decision.first decision.verdict ≤ s.place es d decision.first
+          decision.verdict = omega arith in z);
+      upto = upto;
+    }
   where
     go : (b : Bool) → cond b (first_of_own es d (slice_get es d)) d ≤ d
     go true = subst (λ n. n ≤ d) (ap (first_of_own es d) (sym at))
@@ -94,4 +110,4 @@ pub run_has_one_box : {F A C : Type 0} (s : Setting F A) (box : Box A C) (Same :
     (j : List Entry) → IsSound s → Keeps s.scene box Same Recalled → IsRun s j → IsOneBoxWhole s box Same j
 run_has_one_box s box Same j sound keeps run =
     one_box_whole s box Same j sound run (places_at_decider s.scene j keeps.at_decider)
-        (run_explained s box Same j keeps run)
+    (run_explained s box Same j keeps run)

@@ -22,7 +22,7 @@ module _ {F G A B : Type 0} (c : Case F G A B) (s : Setting F A) (es : List Entr
   pub own_paths : HasPaths (case_scene c s.scene) es → HasPaths s.scene es
   own_paths paths i k =
       path_as c.into (s.scene.machine i) (case_machine c (s.scene.machine i)) (machine_image c (s.scene.machine i))
-          (s.scene.begins i k) (own_of i k es) (paths i k)
+      (s.scene.begins i k) (own_of i k es) (paths i k)
 
   pub case_paths : IsRun (case_setting c s) es → HasPaths s.scene es
   case_paths run = own_paths (paths_of_run (case_setting c s) es run)
@@ -32,7 +32,7 @@ module _ {F G A B : Type 0} (c : Case F G A B) (s : Setting F A) (es : List Entr
   case_explained box Same explained =
       explained_view c.view (case_scene c s.scene) box Same es
       (explained_as c.into s.scene (viewed c.view (case_scene c s.scene))
-          (scene_image c s.scene) box Same es explained)
+      (scene_image c s.scene) box Same es explained)
 
   -- where each packet's place is its deciding entry, it is so in a case
   pub case_places : ((es : List Entry) (number : ℕ) (first : F) (verdict : Verdict) →
@@ -50,4 +50,4 @@ module _ {F G A B : Type 0} (c : Case F G A B) (s : Setting F A) (es : List Entr
       IsOneBoxWhole (case_setting c s) (box_through c.view box) Same es
   case_whole box Same sound places run explained =
       one_box_whole (case_setting c s) (box_through c.view box) Same es (case_sound c s sound) run places
-          (case_explained box Same explained)
+      (case_explained box Same explained)

@@ -62,9 +62,9 @@ wishes_are : {F A : Type 0} (s : Setting F A) (incarnation at : ℕ) (actor : Ac
 wishes_are s incarnation at actor es Good [] h = tt
 wishes_are s incarnation at actor es Good (offer ∷ offers) h =
     wish_is s incarnation at actor es Good offer
-        (stand_in (job_of s incarnation at actor) (part_of incarnation es) offer.item)
-        (wishes_at s es incarnation at actor offers) h.0 (stands_in s es incarnation at actor offer.item)
-        (wishes_are s incarnation at actor es Good offers h.1)
+    (stand_in (job_of s incarnation at actor) (part_of incarnation es) offer.item)
+    (wishes_at s es incarnation at actor offers) h.0 (stands_in s es incarnation at actor offer.item)
+    (wishes_are s incarnation at actor es Good offers h.1)
 
 sooner_meets : (c : Wish → Wish → Bool) (P : Wish → Type 0) (w : Wish) (o : Option Wish) → P w →
     ((v : Wish) → o ≡ Some v → P v) → P (sooner c w o)
@@ -136,13 +136,14 @@ earlier_ended : {F A : Type 0} (s : Setting F A) (incarnation at : ℕ) (actor :
 earlier_ended s incarnation at actor es batch [] h = tt
 earlier_ended s incarnation at actor es batch (offer ∷ offers) h =
     let p : (offer.batch < batch → HasEnded (stand_in (job_of s incarnation at actor)
-        (part_of incarnation es) offer.item)) × Every (λ v. batch ≤ v.batch)
-        (wishes_at s es incarnation at actor offers) =
+    (part_of incarnation es) offer.item)) × Every (λ v. batch ≤ v.batch)
+    (wishes_at s es incarnation at actor offers) =
     ended_or_later s incarnation at actor es batch offer
-        (stand_in (job_of s incarnation at actor) (part_of incarnation es) offer.item)
-        (wishes_at s es incarnation at actor offers) h in
-    (λ l. subst HasEnded (sym (stands_in s es incarnation at actor offer.item)) (p.0 l),
-        earlier_ended s incarnation at actor es batch offers p.1)
+    (stand_in (job_of s incarnation at actor) (part_of incarnation es) offer.item)
+    (wishes_at s es incarnation at actor offers) h in (
+      λ l. subst HasEnded (sym (stands_in s es incarnation at actor offer.item)) (p.0 l),
+      earlier_ended s incarnation at actor es batch offers p.1,
+    )
 
 some_wanted : (stopped : Bool) (o : Option Wish) (ask : Ask) → (if stopped then None else ask_of o) ≡ Some ask →
     (stopped ≡ false) × ((w : Wish) × (o ≡ Some w) × (w.ask ≡ ask))
@@ -177,7 +178,7 @@ next_of_wish s c keeps es incarnation at actor w running e is = record {
       subst (λ batch. EarlierEnded s incarnation es batch (offers_of s incarnation at actor))
       (is.batch ∙ (sym is.good.batch ∙ ap (λ item. batch_of item (offers_of s incarnation at actor)) (sym is.item)))
       (earlier_ended s incarnation at actor es w.batch (offers_of s incarnation at actor)
-          (first_is_least c keeps _ w e));
+      (first_is_least c keeps _ w e));
 }
 
 pub wanted_tells : {F A : Type 0} (s : Setting F A) (c : Wish → Wish → Bool) → KeepsBatches c →
@@ -185,15 +186,15 @@ pub wanted_tells : {F A : Type 0} (s : Setting F A) (c : Wish → Wish → Bool)
     ≡ Some ask → IsNextAccess s es incarnation at actor ask
 wanted_tells s c keeps es incarnation at actor ask e =
     let p : (is_stopped actor (part_of incarnation es) ≡ false)
-        × ((w : Wish) × (first_of_wishes c (wishes_at s es incarnation at actor (offers_of s incarnation at actor))
-        ≡ Some w) × (w.ask ≡ ask)) =
+    × ((w : Wish) × (first_of_wishes c (wishes_at s es incarnation at actor (offers_of s incarnation at actor))
+    ≡ Some w) × (w.ask ≡ ask)) =
     some_wanted (is_stopped actor (part_of incarnation es))
-        (first_of_wishes c (wishes_at s es incarnation at actor (offers_of s incarnation at actor))) ask e in
+    (first_of_wishes c (wishes_at s es incarnation at actor (offers_of s incarnation at actor))) ask e in
     subst (IsNextAccess s es incarnation at actor) p.1.2
     (next_of_wish s c keeps es incarnation at actor p.1.0 p.0 p.1.1
     (first_meets c (IsWish s incarnation es (IsKnown 0 (offers_of s incarnation at actor))) _ p.1.0
     (wishes_are s incarnation at actor es (IsKnown 0 (offers_of s incarnation at actor))
-        (offers_of s incarnation at actor)
+    (offers_of s incarnation at actor)
     (rising_known 0 (offers_of s incarnation at actor) (offers_of-rising s incarnation at actor)))
     p.1.1))
 
@@ -216,12 +217,13 @@ ended_of_no_wishes : {F A : Type 0} (s : Setting F A) (c : Wish → Wish → Boo
 ended_of_no_wishes s c incarnation at actor es [] e = tt
 ended_of_no_wishes s c incarnation at actor es (offer ∷ offers) e =
     let p : HasEnded (stand_in (job_of s incarnation at actor) (part_of incarnation es) offer.item)
-        × (first_of_wishes c (wishes_at s es incarnation at actor offers) ≡ None) =
+    × (first_of_wishes c (wishes_at s es incarnation at actor offers) ≡ None) =
     ended_of_no_wish s c incarnation at actor es offer
-        (stand_in (job_of s incarnation at actor) (part_of incarnation es) offer.item)
-        (wishes_at s es incarnation at actor offers) e in
-    (subst HasEnded (sym (stands_in s es incarnation at actor offer.item)) p.0,
-        ended_of_no_wishes s c incarnation at actor es offers p.1)
+    (stand_in (job_of s incarnation at actor) (part_of incarnation es) offer.item)
+    (wishes_at s es incarnation at actor offers) e in (
+      subst HasEnded (sym (stands_in s es incarnation at actor offer.item)) p.0,
+      ended_of_no_wishes s c incarnation at actor es offers p.1,
+    )
 
 -- an actor that wants nothing is stopped, or all its offers have ended
 pub wants_nothing : {F A : Type 0} (s : Setting F A) (c : Wish → Wish → Bool) (es : List Entry) (incarnation at : ℕ)
@@ -229,7 +231,7 @@ pub wants_nothing : {F A : Type 0} (s : Setting F A) (c : Wish → Wish → Bool
     ⊎ AllEnded s incarnation es (offers_of s incarnation at actor)
 wants_nothing s c es incarnation at actor e =
     elim (none_wanted (is_stopped actor (part_of incarnation es))
-        (first_of_wishes c (wishes_at s es incarnation at actor (offers_of s incarnation at actor))) e) [
+    (first_of_wishes c (wishes_at s es incarnation at actor (offers_of s incarnation at actor))) e) [
       | inl h ↦ inl h
       | inr h ↦ inr (ended_of_no_wishes s c incarnation at actor es (offers_of s incarnation at actor) h)
     ]

@@ -30,8 +30,11 @@ is_other_on key incarnation item e = (key_of e.request == key) && not (is_of inc
 
 -- these items and the entry's
 abbrev pub with_item_of : Entry → List Item → List Item
-with_item_of e items = if is_of_items items e then items else record { incarnation = e.incarnation; number =
-    e.item } ∷ items
+with_item_of e items = if is_of_items items e then items else record {
+  incarnation = e.incarnation;
+  number =
+      e.item;
+} ∷ items
 
 -- the items of the entries that pass the test, each once
 abbrev pub items_of : (Entry → Bool) → List Entry → List Item

@@ -41,9 +41,9 @@ batched limit first number size keys [] = []
 batched limit first number size keys (item ∷ items) =
     if nat_lt size limit && not (is_among (first item) keys)
     then record { item = item; batch = number } ∷ batched limit first number (size + 1)
-        (with_key (first item) keys) items
+    (with_key (first item) keys) items
     else record { item = item; batch = number + 1 } ∷ batched limit first (number + 1) 1
-        (with_key (first item) []) items
+    (with_key (first item) []) items
 
 -- at most so many, where there is a quota
 abbrev pub within_quota : Option ℕ → ℕ → ℕ
@@ -154,7 +154,7 @@ wishes_in job own (offer ∷ offers) = wish_in job own offer (stand_in job own o
 abbrev pub wanted_in : {F : Type 0} → (Wish → Wish → Bool) → Job F → List Entry → Option Ask
 wanted_in comes_before job own =
     if is_stop job.stop (length own) then None else ask_of
-        (first_of_wishes comes_before (wishes_in job own (offers_in job)))
+    (first_of_wishes comes_before (wishes_in job own (offers_in job)))
 
 -- What an actor with this stop took of its offers after its own entries: all where it isn't stopped, and else those
 -- up to the batch that has its last entry, and none where its stop is 0.
@@ -183,7 +183,10 @@ job_of s incarnation at actor = record {
   shards = s.shards;
   batch = elim (actor.lane) [ None ↦ 1 | Some lane ↦ s.batch ];
   at = elim (actor.lane) [ None ↦ 0 | Some lane ↦ at ];
-  count = elim (actor.lane) [ None ↦ s.sweep_items | Some lane ↦
-      within_quota actor.quota (slice_index s.lanes lane - at) ];
+  count = elim (actor.lane) [
+    | None ↦ s.sweep_items
+    | Some lane ↦
+        within_quota actor.quota (slice_index s.lanes lane - at)
+  ];
   stop = actor.stop;
 }

@@ -145,10 +145,10 @@ ReachesBoxOnce s es lane number = (c d : ℕ) → ReachesBox s es lane number c 
 abbrev pub IsGiven : {F A : Type 0} → Setting F A → List Entry → ℕ → ℕ → Verdict → Type 0
 IsGiven {F = F} s es incarnation number verdict =
     ((reason : Reason) × (s.scene.begins incarnation number ≡ Ends (Some (Dropped reason)))
-        × (verdict ≡ Dropped reason))
+    × (verdict ≡ Dropped reason))
     ⊎ ((verdict ≡ Lost) × WasInHand s es incarnation number)
     ⊎ ((decider : ℕ) × (decision : Decision F) × IsDecided s es incarnation number decider decision
-        × (decision.verdict ≡ verdict) × IsAnswer verdict × HasCome s es incarnation number verdict)
+    × (decision.verdict ≡ verdict) × IsAnswer verdict × HasCome s es incarnation number verdict)
 
 -- What a run tells of its packets, whatever boxes explain it.
 pub record IsTold {F A : Type 0} (s : Setting F A) (es : List Entry) : Type 0 where

@@ -43,7 +43,7 @@ abbrev pub taken_on : {F A : Type 0} → Setting F A → List Entry → ℕ → 
 taken_on s es incarnation places lane [] = 0
 taken_on s es incarnation places lane (actor ∷ actors) =
     (if is_on lane actor then length (taken_of actor (part_of incarnation es)
-        (offers_of s incarnation (at_lane places actor) actor)) else 0)
+    (offers_of s incarnation (at_lane places actor) actor)) else 0)
     + taken_on s es (incarnation + 1) places lane actors
 
 -- how far each lane has come after an epoch whose first incarnation is this

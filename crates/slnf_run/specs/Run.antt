@@ -35,7 +35,7 @@ abbrev pub EarlierEnded : {F A : Type 0} → Setting F A → ℕ → List Entry 
 EarlierEnded s incarnation es batch [] = Unit {0}
 EarlierEnded s incarnation es batch (offer ∷ offers) =
     (offer.batch < batch → HasEnded (stand_of s.scene incarnation offer.item es))
-        × EarlierEnded s incarnation es batch offers
+    × EarlierEnded s incarnation es batch offers
 
 pub record IsRun {F A : Type 0} (s : Setting F A) (j : List Entry) : Type 0 where
   -- 1. The entries are in strict order of (stamp, shard), with stamps from 1 to 2^62 - 1 in the shards of their keys,

@@ -88,7 +88,7 @@ abbrev pub NobodyWants : {F A : Type 0} → Setting F A → (Wish → Wish → B
 NobodyWants s comes_before places es incarnation [] = Unit {0}
 NobodyWants s comes_before places es incarnation (actor ∷ actors) =
     (wanted s comes_before es incarnation (at_lane places actor) actor ≡ None)
-        × NobodyWants s comes_before places es (incarnation + 1) actors
+    × NobodyWants s comes_before places es (incarnation + 1) actors
 
 -- These epochs make the list of the one with which they begin: in each the schedule's numbers go in order, and then
 -- the actors go round until all have ended.

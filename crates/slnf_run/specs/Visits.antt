@@ -34,7 +34,7 @@ decision_of (Flies first) (Some verdict) = Some (record { first = first; verdict
 abbrev pub decision_at : {F A : Type 0} → Scene F A → List Entry → ℕ → Option (Decision F)
 decision_at s es number =
     option_and_then (λ e. decision_of (s.begins e.incarnation e.item) (decided_by s (take number es) e))
-        (slice_get es number)
+    (slice_get es number)
 
 -- What the box sees at once: a packet and the verdict that was decided, or a removal, which has no verdict.
 pub record Visit (A : Type 0) : Type 0 where
