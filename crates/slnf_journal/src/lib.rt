@@ -14,6 +14,6 @@ mod verdicts;
 
 pub use entries::write_journal;
 pub use errors::JournalError;
-pub use read::read_journal;
+pub use read::{read_journal, written_journals_are_read};
 pub use summary::{Ending, write_summary};
 pub use verdicts::write_verdicts;

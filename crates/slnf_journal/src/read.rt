@@ -1,6 +1,7 @@
 ghost use Rattle.std.specs.Prelude.{◌≡◌, ◌≢◌, List, IfOk, IfErr, Ok, Err};
 ghost use Rattle.slnf_access.specs.declared.requests.Entry.{Entry};
 ghost use Rattle.slnf_journal.specs.declared.errors.JournalError.{JournalError};
+ghost use Rattle.slnf_journal.specs.Journal.{journal_text};
 ghost use Rattle.slnf_journal.specs.Versions.{One, text_in, line_entry};
 ghost use Rattle.slnf_journal.specs.Fields.{parts_at};
 ghost use Rattle.slnf_journal.specs.Reading.{at_line, entries_in, journal_in, Answers};
@@ -28,6 +29,11 @@ pub fn read_journal(alloc: Global, bytes: &[u8]) -> Result<Row<Entry>, JournalEr
 {
     read_all(alloc, bytes)
 }
+
+/// What is written of entries whose numbers are in the text's ranges says these entries.
+pub fn written_journals_are_read()
+    ensures { (entries : List Entry) → AllFit entries → journal_in One (journal_text entries) ≡ Ok entries }
+{}
 
 #[tactic(auto, unfolding(crate::specs::Reading::journal_in))]
 fn read_all(alloc: Global, bytes: &[u8]) -> Result<Row<Entry>, JournalError>
