@@ -65,7 +65,8 @@ conn_keyed = record {
   apart = λ a b fits_a fits_b e. coded_same conn_key_number conn_key_of IsConnKey conn_key-coded a b fits_a fits_b e;
 }
 
-state_read : (b : Bool) (s : State) → let t : Tracked = record { by_outside = b; state = s } in tracked_in (conn_value t) ≡ Some t
+state_read : (b : Bool) (s : State)
+    → let t : Tracked = record { by_outside = b; state = s } in tracked_in (conn_value t) ≡ Some t
 state_read b SynSent = refl
 state_read b SynAcked = refl
 state_read b Opened = refl
@@ -80,7 +81,8 @@ pub tracked_read : (t : Tracked) → tracked_of (tracked_number t) ≡ Some t
 tracked_read t = ap (option_and_then tracked_in) (conn_of-conn_number (conn_value t)) ∙ state_read t.by_outside t.state
 
 -- a packet's connection is in range
-pub conn_fits : (policy : Policy) (packet : Packet) → IsPair packet.source → IsPair packet.dest → IsConnKey (conn_of_packet policy packet)
+pub conn_fits : (policy : Policy) (packet : Packet) → IsPair packet.source → IsPair packet.dest
+    → IsConnKey (conn_of_packet policy packet)
 conn_fits policy packet source dest = go (from_outside policy packet)
   where
     go : (b : Bool) → IsConnKey (conn_by_side b packet)

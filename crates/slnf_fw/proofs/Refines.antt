@@ -19,7 +19,8 @@ use Rattle.slnf_fw.proofs.States.{Seen, flight_seen}
 use Rattle.slnf_fw.proofs.Steps.{Right, goes_right}
 use Rattle.slnf_access.specs.Order.{RisesOnKeys}
 
-pub fw_keeps : (policy : Policy) (begins : ℕ → ℕ → Stand Flying) → BeginsFlights policy begins → Keeps (fw_scene policy begins) (fw_box policy) IsSameConns Recalled
+pub fw_keeps : (policy : Policy) (begins : ℕ → ℕ → Stand Flying) → BeginsFlights policy begins
+    → Keeps (fw_scene policy begins) (fw_box policy) IsSameConns Recalled
 fw_keeps policy begins flights = record {
   steady = λ incarnation flight reply verdict h. absurd (cc);
   at_decider = λ es number first verdict. refl;
@@ -27,7 +28,10 @@ fw_keeps policy begins flights = record {
   at_entry = at_entry;
 }
   where
-    at_entry : (cells : Cells) (own : List Entry) (e : Entry) (first flight : Flying) (conns : Conns) → IsNext (fw_scene policy begins) cells own e first flight → Recalled cells own e → IsSameConns conns cells → Right policy conns first.packet (map_after cells (e ∷ [])) (goes_in policy flight.state flight.packet e.reply)
+    at_entry : (cells : Cells) (own : List Entry) (e : Entry) (first flight : Flying) (conns : Conns)
+        → IsNext (fw_scene policy begins) cells own e first flight → Recalled cells own e → IsSameConns conns cells
+        → Right policy conns first.packet (map_after cells (e ∷ []))
+        (goes_in policy flight.state flight.packet e.reply)
     at_entry cells own e first flight conns next known same =
         let begun : IsFirst policy first = flights e.incarnation e.item first next.begins in
         let seen : (flight.packet ≡ first.packet) × Seen policy first.packet own flight.state = flight_seen policy first flight own begun.state next.path next.stands in
@@ -36,6 +40,8 @@ fw_keeps policy begins flights = record {
         (goes_right policy conns first.packet cells e begun.crosses (conn_fits policy first.packet begun.source begun.dest) next.replied same own flight.state seen.1 known asked)
 
 -- One ordinary firewall explains the list.
-pub fw_explained : (policy : Policy) (begins : ℕ → ℕ → Stand Flying) (es : List Entry) → BeginsFlights policy begins → RisesOnKeys es → IsLegal es → HasPaths (fw_scene policy begins) es → IsExplained (fw_scene policy begins) (fw_box policy) IsSameConns es
+pub fw_explained : (policy : Policy) (begins : ℕ → ℕ → Stand Flying) (es : List Entry) → BeginsFlights policy begins
+    → RisesOnKeys es → IsLegal es → HasPaths (fw_scene policy begins) es → IsExplained (fw_scene policy begins)
+    (fw_box policy) IsSameConns es
 fw_explained policy begins es flights rises legal paths =
     recalled_explained (fw_scene policy begins) (fw_box policy) IsSameConns es (fw_keeps policy begins flights) rises legal paths

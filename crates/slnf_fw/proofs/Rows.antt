@@ -135,12 +135,18 @@ Passes lanes es incarnation item =
 whole_passes : Passes whole_lanes whole 0 0 × Passes whole_lanes whole 1 0 × Passes whole_lanes whole 0 1
     × Passes whole_lanes whole 2 0 × Passes whole_lanes whole 1 1 × Passes whole_lanes whole 2 1
 unfolding conn_key_number key_number pair_number conn_number conn_of
-whole_passes =
-    (((refl, (refl, tt)), refl), ((refl, (refl, tt)), refl), ((refl, (refl, tt)), refl), ((refl, (refl, tt)), refl),
-    ((refl, (refl, tt)), refl), ((refl, (refl, tt)), refl))
+whole_passes = (
+  ((refl, (refl, tt)), refl),
+  ((refl, (refl, tt)), refl),
+  ((refl, (refl, tt)), refl),
+  ((refl, (refl, tt)), refl),
+  ((refl, (refl, tt)), refl),
+  ((refl, (refl, tt)), refl),
+)
 
 -- and the box has the connection closed
-whole_closed : content_after (fw_scene policy (begins whole_lanes)) (fw_box policy) whole 12 (conn_of_packet policy (out 2))
+whole_closed : content_after (fw_scene policy (begins whole_lanes))
+    (fw_box policy) whole 12 (conn_of_packet policy (out 2))
     ≡ Some (record { by_outside = false; state = Closed })
 unfolding conn_of
 whole_closed = refl

@@ -12,7 +12,8 @@ use Rattle.slnf_fw.specs.Packets.{Policy, crosses}
 use Rattle.slnf_fw.specs.Machine.{fw_begins}
 use Rattle.slnf_fw.specs.Scene.{IsFirst}
 
-pub fw_first : (policy : Policy) (packet : Packet) (flight : Flying) → IsPair packet.source → IsPair packet.dest → fw_begins policy packet ≡ StartGo flight → IsFirst policy flight
+pub fw_first : (policy : Policy) (packet : Packet) (flight : Flying) → IsPair packet.source → IsPair packet.dest
+    → fw_begins policy packet ≡ StartGo flight → IsFirst policy flight
 fw_first policy packet flight source dest h = go (crosses policy packet) refl h
   where
     begun : Flying
@@ -21,13 +22,17 @@ fw_first policy packet flight source dest h = go (crosses policy packet) refl h
     same_start : (a b : Flying) → ◌≡◌ {A = Start Flying} (StartGo a) (StartGo b) → a ≡ b
     same_start a b h = cc
 
-    go : (b : Bool) → crosses policy packet ≡ b → cond {A = Start Flying} b (StartGo (record { state = Look; packet = packet })) (StartOver Neither) ≡ StartGo flight → IsFirst policy flight
+    go : (b : Bool) → crosses policy packet ≡ b
+        → cond {A = Start Flying} b (StartGo (record { state = Look; packet = packet }))
+        (StartOver Neither) ≡ StartGo flight → IsFirst policy flight
     go true w h = subst (IsFirst policy) (same_start (record { state = Look; packet = packet }) flight h) (record { state = refl; crosses = w; source = source; dest = dest })
     go false w h = absurd (cc)
 
-pub fw_refuses : (policy : Policy) (packet : Packet) (reason : Reason) → fw_begins policy packet ≡ StartOver reason → reason ≡ Neither
+pub fw_refuses : (policy : Policy) (packet : Packet) (reason : Reason) → fw_begins policy packet ≡ StartOver reason
+    → reason ≡ Neither
 fw_refuses policy packet reason h = go (crosses policy packet) h
   where
-    go : (b : Bool) → cond {A = Start Flying} b (StartGo (record { state = Look; packet = packet })) (StartOver Neither) ≡ StartOver reason → reason ≡ Neither
+    go : (b : Bool) → cond {A = Start Flying} b (StartGo (record { state = Look; packet = packet }))
+        (StartOver Neither) ≡ StartOver reason → reason ≡ Neither
     go true h = cc
     go false h = cc

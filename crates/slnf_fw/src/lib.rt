@@ -5,6 +5,8 @@
 mod choices;
 mod flights;
 mod functions;
+#[cfg(test)]
+mod tests;
 mod theorems;
 
 pub use choices::Choice;
