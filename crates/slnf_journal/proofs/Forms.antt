@@ -420,20 +420,20 @@ E2 stamp shard e = (incarnation : ℕ) × (incarnation < 2 ^ 32) × E3 stamp sha
 abbrev E1 : ℕ → Entry → Type 0
 E1 stamp e = (shard : ℕ) × (shard < 64) × E2 stamp shard e
 
-abbrev W5 : Entry → List (List ℕ)
-W5 e = reply_fields e.reply
+abbrev after_request : Entry → List (List ℕ)
+after_request e = reply_fields e.reply
 
-abbrev W4 : Entry → List (List ℕ)
-W4 e = request_fields e.request ++ W5 e
+abbrev after_item : Entry → List (List ℕ)
+after_item e = request_fields e.request ++ after_request e
 
-abbrev W3 : Entry → List (List ℕ)
-W3 e = decimal e.item ∷ W4 e
+abbrev after_incarnation : Entry → List (List ℕ)
+after_incarnation e = decimal e.item ∷ after_item e
 
-abbrev W2 : Entry → List (List ℕ)
-W2 e = decimal e.incarnation ∷ W3 e
+abbrev after_shard : Entry → List (List ℕ)
+after_shard e = decimal e.incarnation ∷ after_incarnation e
 
-abbrev W1 : Entry → List (List ℕ)
-W1 e = decimal e.shard ∷ W2 e
+abbrev after_stamp : Entry → List (List ℕ)
+after_stamp e = decimal e.shard ∷ after_shard e
 
 abbrev r5 : ℕ → ℕ → ℕ → ℕ → Request → Fields → Result (Entry × Fields) ℕ
 r5 stamp shard incarnation item request fields = reply_in fields >>= (λ reply. Ok (made stamp shard incarnation item request reply.0, reply.1))
@@ -450,37 +450,37 @@ r2 stamp shard fields = field_in (number_of 0 (2 ^ 32)) fields >>= (λ incarnati
 abbrev r1 : ℕ → Fields → Result (Entry × Fields) ℕ
 r1 stamp fields = field_in (number_of 0 64) fields >>= (λ shard. r2 stamp shard.0 shard.1)
 
-exact5 : (stamp shard incarnation item : ℕ) (request : Request) → IsExact (E5 stamp shard incarnation item request) W5 (r5 stamp shard incarnation item request)
+exact5 : (stamp shard incarnation item : ℕ) (request : Request) → IsExact (E5 stamp shard incarnation item request) after_request (r5 stamp shard incarnation item request)
 exact5 stamp shard incarnation item request =
-    exact_then FitsReply reply_fields reply_in (E6 stamp shard incarnation item request) (λ reply e. []) (λ reply fields. Ok (made stamp shard incarnation item request reply, fields)) W5
-    exact_reply (λ reply p. exact_done (made stamp shard incarnation item request reply)) (λ reply e p h. ap W5 h ∙ sym (append-nil (reply_fields reply)))
+    exact_then FitsReply reply_fields reply_in (E6 stamp shard incarnation item request) (λ reply e. []) (λ reply fields. Ok (made stamp shard incarnation item request reply, fields)) after_request
+    exact_reply (λ reply p. exact_done (made stamp shard incarnation item request reply)) (λ reply e p h. ap after_request h ∙ sym (append-nil (reply_fields reply)))
 
-exact4 : (stamp shard incarnation item : ℕ) → IsExact (E4 stamp shard incarnation item) W4 (r4 stamp shard incarnation item)
+exact4 : (stamp shard incarnation item : ℕ) → IsExact (E4 stamp shard incarnation item) after_item (r4 stamp shard incarnation item)
 exact4 stamp shard incarnation item =
-    exact_then FitsRequest request_fields request_in (E5 stamp shard incarnation item) (λ request e. W5 e) (r5 stamp shard incarnation item) W4
+    exact_then FitsRequest request_fields request_in (E5 stamp shard incarnation item) (λ request e. after_request e) (r5 stamp shard incarnation item) after_item
     exact_request (λ request p. exact5 stamp shard incarnation item request)
-    (λ request e p h. ap (λ x. request_fields x ++ W5 e) (ap (λ (x : Entry). x.request) h.2))
+    (λ request e p h. ap (λ x. request_fields x ++ after_request e) (ap (λ (x : Entry). x.request) h.2))
 
 abbrev Below : ℕ → ℕ → Type 0
 Below end n = n < end
 
-exact3 : (stamp shard incarnation : ℕ) → IsExact (E3 stamp shard incarnation) W3 (r3 stamp shard incarnation)
+exact3 : (stamp shard incarnation : ℕ) → IsExact (E3 stamp shard incarnation) after_incarnation (r3 stamp shard incarnation)
 exact3 stamp shard incarnation =
-    exact_then (Below (2 ^ 32)) (λ n. decimal n ∷ []) (field_in (number_of 0 (2 ^ 32))) (E4 stamp shard incarnation) (λ item e. W4 e) (r4 stamp shard incarnation) W3
+    exact_then (Below (2 ^ 32)) (λ n. decimal n ∷ []) (field_in (number_of 0 (2 ^ 32))) (E4 stamp shard incarnation) (λ item e. after_item e) (r4 stamp shard incarnation) after_incarnation
     (exact_below (2 ^ 32) (omega arith) (omega arith)) (λ item p. exact4 stamp shard incarnation item)
-    (λ item e p h. ap (λ x. decimal x ∷ W4 e) (ap (λ (x : Entry). x.item) h.2.2))
+    (λ item e p h. ap (λ x. decimal x ∷ after_item e) (ap (λ (x : Entry). x.item) h.2.2))
 
-exact2 : (stamp shard : ℕ) → IsExact (E2 stamp shard) W2 (r2 stamp shard)
+exact2 : (stamp shard : ℕ) → IsExact (E2 stamp shard) after_shard (r2 stamp shard)
 exact2 stamp shard =
-    exact_then (Below (2 ^ 32)) (λ n. decimal n ∷ []) (field_in (number_of 0 (2 ^ 32))) (E3 stamp shard) (λ incarnation e. W3 e) (r3 stamp shard) W2
+    exact_then (Below (2 ^ 32)) (λ n. decimal n ∷ []) (field_in (number_of 0 (2 ^ 32))) (E3 stamp shard) (λ incarnation e. after_incarnation e) (r3 stamp shard) after_shard
     (exact_below (2 ^ 32) (omega arith) (omega arith)) (λ incarnation p. exact3 stamp shard incarnation)
-    (λ incarnation e p h. ap (λ x. decimal x ∷ W3 e) (ap (λ (x : Entry). x.incarnation) h.2.2.2))
+    (λ incarnation e p h. ap (λ x. decimal x ∷ after_incarnation e) (ap (λ (x : Entry). x.incarnation) h.2.2.2))
 
-exact1 : (stamp : ℕ) → IsExact (E1 stamp) W1 (r1 stamp)
+exact1 : (stamp : ℕ) → IsExact (E1 stamp) after_stamp (r1 stamp)
 exact1 stamp =
-    exact_then (Below 64) (λ n. decimal n ∷ []) (field_in (number_of 0 64)) (E2 stamp) (λ shard e. W2 e) (r2 stamp) W1
+    exact_then (Below 64) (λ n. decimal n ∷ []) (field_in (number_of 0 64)) (E2 stamp) (λ shard e. after_shard e) (r2 stamp) after_stamp
     (exact_below 64 (omega arith) (omega arith)) (λ shard p. exact2 stamp shard)
-    (λ shard e p h. ap (λ x. decimal x ∷ W2 e) (ap (λ (x : Entry). x.shard) h.2.2.2.2))
+    (λ shard e p h. ap (λ x. decimal x ∷ after_shard e) (ap (λ (x : Entry). x.shard) h.2.2.2.2))
 
 fits_as : (e : Entry) → (stamp : ℕ) × IsStamp stamp × E1 stamp e → Fits e
 fits_as e p =
@@ -495,6 +495,6 @@ unfolding parts_in
 exact_parts =
     exact_as (λ e. (stamp : ℕ) × IsStamp stamp × E1 stamp e) Fits entry_fields (λ fields. stamp_in fields >>= (λ stamp. r1 stamp.0 stamp.1))
     fits_as as_fits
-    (exact_then IsStamp (λ n. decimal n ∷ []) stamp_in E1 (λ stamp e. W1 e) r1 entry_fields
+    (exact_then IsStamp (λ n. decimal n ∷ []) stamp_in E1 (λ stamp e. after_stamp e) r1 entry_fields
     exact_stamp (λ stamp p. exact1 stamp)
-    (λ stamp e p h. ap (λ x. decimal x ∷ W1 e) (ap (λ (x : Entry). x.stamp) h.2.2.2.2.2)))
+    (λ stamp e p h. ap (λ x. decimal x ∷ after_stamp e) (ap (λ (x : Entry). x.stamp) h.2.2.2.2.2)))

@@ -6,3 +6,4 @@ pub mod Forms
 pub mod Texts
 pub mod Steps
 pub mod Journals
+pub mod Counts

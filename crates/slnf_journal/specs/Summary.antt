@@ -24,6 +24,16 @@ abbrev pub count_in : Ending → List (List Verdict) → ℕ
 count_in ending [] = 0
 count_in ending (verdicts ∷ lanes) = count_of ending verdicts + count_in ending lanes
 
+-- how many packets are emitted, dropped and lost
+abbrev pub emitted_in : List (List Verdict) → ℕ
+emitted_in lanes = count_in ending.Emitted lanes
+
+abbrev pub dropped_in : List (List Verdict) → ℕ
+dropped_in lanes = count_in ending.Dropped lanes
+
+abbrev pub lost_in : List (List Verdict) → ℕ
+lost_in lanes = count_in ending.Lost lanes
+
 -- how many packets there are
 abbrev pub packets_in : List (List Verdict) → ℕ
 packets_in [] = 0
@@ -33,8 +43,8 @@ packets_in (verdicts ∷ lanes) = length verdicts + packets_in lanes
 unfoldable pub summary_text : List (List Verdict) → List Entry → List ℕ
 summary_text lanes entries =
     codes "packets " ++ decimal (packets_in lanes)
-    ++ codes " emitted " ++ decimal (count_in ending.Emitted lanes)
-    ++ codes " dropped " ++ decimal (count_in ending.Dropped lanes)
-    ++ codes " lost " ++ decimal (count_in ending.Lost lanes)
+    ++ codes " emitted " ++ decimal (emitted_in lanes)
+    ++ codes " dropped " ++ decimal (dropped_in lanes)
+    ++ codes " lost " ++ decimal (lost_in lanes)
     ++ codes " left " ++ decimal (left_in lanes)
     ++ codes " entries " ++ decimal (length entries) ++ codes "\n"

@@ -15,5 +15,5 @@ mod verdicts;
 pub use entries::write_journal;
 pub use errors::JournalError;
 pub use read::{read_journal, written_journals_are_read};
-pub use summary::{Ending, write_summary};
+pub use summary::{summary_adds_up, write_summary};
 pub use verdicts::write_verdicts;

@@ -1,6 +1,7 @@
-ghost use Rattle.std.specs.Prelude.{◌≡◌, ◌++◌, IfOk};
+ghost use Rattle.std.specs.Prelude.{◌≡◌, ◌+◌, ◌++◌, List, IfOk};
+ghost use Rattle.slnf_base.specs.declared.packets.Verdict.{Verdict};
 ghost use Rattle.slnf_flight.specs.Verdicts.{left_in};
-ghost use Rattle.slnf_journal.specs.Summary.{ends_as, count_of, count_in, packets_in, summary_text};
+ghost use Rattle.slnf_journal.specs.Summary.{ends_as, count_of, count_in, emitted_in, dropped_in, lost_in, packets_in, summary_text};
 
 use crate::lines::Lines;
 use slnf_base::{NoMemory, Row, Verdict};
@@ -9,7 +10,7 @@ use std::alloc::Global;
 
 /// The ways in which packets that an instance took end.
 #[derive(Clone, Copy, Debug, PartialEq, Eq)]
-pub enum Ending {
+enum Ending {
     Emitted,
     Dropped,
     Lost,
@@ -38,6 +39,11 @@ pub fn write_summary(alloc: Global, outcome: &Outcome) -> Result<Vec<u8>, NoMemo
     lines.push_word(b"\n")?;
     Ok(lines.into_bytes())
 }
+
+/// A law: each packet is emitted, dropped, lost or left.
+pub fn summary_adds_up()
+    ensures { (lanes : List (List Verdict)) → packets_in lanes ≡ emitted_in lanes + dropped_in lanes + lost_in lanes + left_in lanes }
+{}
 
 /// How many packets there are.
 fn packets_in(lanes: &[Row<Verdict>]) -> u128
