@@ -151,7 +151,7 @@ pub out_short : (nat : Nat) (state : OutState) (incarnation : ℕ) (packet : Pac
     IsPath (nat_machine nat) (Flies (Out state incarnation packet)) own → length own ≤ nat.ports + 3
 out_short nat state incarnation packet own some path =
     at_most (length own) (out_rank nat.ports state) (nat.ports + 3)
-        (path_bound nat some (Flies (Out state incarnation packet)) own path) (out_bound nat.ports state)
+    (path_bound nat some (Flies (Out state incarnation packet)) own path) (out_bound nat.ports state)
 
 pub in_short : (nat : Nat) (state : InState) (packet : Packet) (own : List Entry) → 0 < nat.ports →
     IsPath (nat_machine nat) (Flies (In state packet)) own → length own ≤ 2
@@ -162,4 +162,4 @@ pub sweep_short : (nat : Nat) (state : SweepState) (proto : Proto) (port : Pair)
     0 < nat.ports → IsPath (nat_machine nat) (Flies (Sweep state proto port base)) own → length own ≤ 3
 sweep_short nat state proto port base own some path =
     at_most (length own) (sweep_rank state) 3
-        (path_bound nat some (Flies (Sweep state proto port base)) own path) (sweep_bound state)
+    (path_bound nat some (Flies (Sweep state proto port base)) own path) (sweep_bound state)

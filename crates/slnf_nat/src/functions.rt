@@ -34,14 +34,25 @@ impl Function for NatFunction {
 
     fn next(&self, flight: &NatFlight) -> Request {
         match flight.course {
-            Course::Out(state, incarnation, packet) => next_out(&self.pool, incarnation, &packet, state),
+            Course::Out(state, incarnation, packet) => next_out(
+                &self.pool,
+                incarnation,
+                &packet,
+                state,
+            ),
             Course::In(state, packet) => next_in(&packet, state),
         }
     }
 
     fn after(&self, flight: NatFlight, reply: Reply) -> Step<NatFlight> {
         match flight.course {
-            Course::Out(state, incarnation, packet) => after_out(&self.pool, incarnation, packet, state, reply),
+            Course::Out(state, incarnation, packet) => after_out(
+                &self.pool,
+                incarnation,
+                packet,
+                state,
+                reply,
+            ),
             Course::In(state, packet) => after_in(packet, state, reply),
         }
     }

@@ -120,17 +120,33 @@ fn try_after(pool: &Pool, place: u32) -> OutState
 }
 
 /// How a packet on its way out goes on whose flow has this value, after its claim of the candidate at this place.
-fn released(incarnation: u32, packet: Packet, place: u32, version: u64, value: Value) -> Step<NatFlight>
+fn released(
+    incarnation: u32,
+    packet: Packet,
+    place: u32,
+    version: u64,
+    value: Value,
+) -> Step<NatFlight>
     ensures { result ≡ released incarnation packet place version (flow_to_of value.0) }
 {
     match FlowTo::from_number(value.0) {
         None => no_flow(),
-        Some(to) => go_out(incarnation, packet, OutState::Release(place, version, to.outside)),
+        Some(to) => go_out(
+            incarnation,
+            packet,
+            OutState::Release(place, version, to.outside),
+        ),
     }
 }
 
 /// How a packet on its way out goes on after the reply.
-pub fn after_out(pool: &Pool, incarnation: u32, packet: Packet, state: OutState, reply: Reply) -> Step<NatFlight>
+pub fn after_out(
+    pool: &Pool,
+    incarnation: u32,
+    packet: Packet,
+    state: OutState,
+    reply: Reply,
+) -> Step<NatFlight>
     ensures { result ≡ goes_out (nat_of pool.now) incarnation packet state reply }
 {
     match state {
@@ -145,7 +161,11 @@ pub fn after_out(pool: &Pool, incarnation: u32, packet: Packet, state: OutState,
             Reply::Absent => no_flow(),
         },
         OutState::Confirm(place, version) => match reply {
-            Reply::Done(_) => Step::Over(Verdict::Emit(Change::Source(candidate(pool, packet.source, place)))),
+            Reply::Done(_) => Step::Over(Verdict::Emit(Change::Source(candidate(
+                pool,
+                packet.source,
+                place,
+            )))),
             Reply::Found(value, _) => released(incarnation, packet, place, version, value),
             Reply::Absent => no_flow(),
         },
