@@ -402,23 +402,23 @@ exact_reply =
 abbrev made : ℕ → ℕ → ℕ → ℕ → Request → Reply → Entry
 made stamp shard incarnation item request reply = record { stamp = stamp; shard = shard; incarnation = incarnation; item = item; request = request; reply = reply }
 
-abbrev E6 : ℕ → ℕ → ℕ → ℕ → Request → Reply → Entry → Type 0
-E6 stamp shard incarnation item request reply e = e ≡ made stamp shard incarnation item request reply
+abbrev IsWhole : ℕ → ℕ → ℕ → ℕ → Request → Reply → Entry → Type 0
+IsWhole stamp shard incarnation item request reply e = e ≡ made stamp shard incarnation item request reply
 
-abbrev E5 : ℕ → ℕ → ℕ → ℕ → Request → Entry → Type 0
-E5 stamp shard incarnation item request e = (reply : Reply) × FitsReply reply × E6 stamp shard incarnation item request reply e
+abbrev IsFromReply : ℕ → ℕ → ℕ → ℕ → Request → Entry → Type 0
+IsFromReply stamp shard incarnation item request e = (reply : Reply) × FitsReply reply × IsWhole stamp shard incarnation item request reply e
 
-abbrev E4 : ℕ → ℕ → ℕ → ℕ → Entry → Type 0
-E4 stamp shard incarnation item e = (request : Request) × FitsRequest request × E5 stamp shard incarnation item request e
+abbrev IsFromRequest : ℕ → ℕ → ℕ → ℕ → Entry → Type 0
+IsFromRequest stamp shard incarnation item e = (request : Request) × FitsRequest request × IsFromReply stamp shard incarnation item request e
 
-abbrev E3 : ℕ → ℕ → ℕ → Entry → Type 0
-E3 stamp shard incarnation e = (item : ℕ) × (item < 2 ^ 32) × E4 stamp shard incarnation item e
+abbrev IsFromItem : ℕ → ℕ → ℕ → Entry → Type 0
+IsFromItem stamp shard incarnation e = (item : ℕ) × (item < 2 ^ 32) × IsFromRequest stamp shard incarnation item e
 
-abbrev E2 : ℕ → ℕ → Entry → Type 0
-E2 stamp shard e = (incarnation : ℕ) × (incarnation < 2 ^ 32) × E3 stamp shard incarnation e
+abbrev IsFromIncarnation : ℕ → ℕ → Entry → Type 0
+IsFromIncarnation stamp shard e = (incarnation : ℕ) × (incarnation < 2 ^ 32) × IsFromItem stamp shard incarnation e
 
-abbrev E1 : ℕ → Entry → Type 0
-E1 stamp e = (shard : ℕ) × (shard < 64) × E2 stamp shard e
+abbrev IsFromShard : ℕ → Entry → Type 0
+IsFromShard stamp e = (shard : ℕ) × (shard < 64) × IsFromIncarnation stamp shard e
 
 abbrev after_request : Entry → List (List ℕ)
 after_request e = reply_fields e.reply
@@ -435,66 +435,66 @@ after_shard e = decimal e.incarnation ∷ after_incarnation e
 abbrev after_stamp : Entry → List (List ℕ)
 after_stamp e = decimal e.shard ∷ after_shard e
 
-abbrev r5 : ℕ → ℕ → ℕ → ℕ → Request → Fields → Result (Entry × Fields) ℕ
-r5 stamp shard incarnation item request fields = reply_in fields >>= (λ reply. Ok (made stamp shard incarnation item request reply.0, reply.1))
+abbrev read_from_reply : ℕ → ℕ → ℕ → ℕ → Request → Fields → Result (Entry × Fields) ℕ
+read_from_reply stamp shard incarnation item request fields = reply_in fields >>= (λ reply. Ok (made stamp shard incarnation item request reply.0, reply.1))
 
-abbrev r4 : ℕ → ℕ → ℕ → ℕ → Fields → Result (Entry × Fields) ℕ
-r4 stamp shard incarnation item fields = request_in fields >>= (λ request. r5 stamp shard incarnation item request.0 request.1)
+abbrev read_from_request : ℕ → ℕ → ℕ → ℕ → Fields → Result (Entry × Fields) ℕ
+read_from_request stamp shard incarnation item fields = request_in fields >>= (λ request. read_from_reply stamp shard incarnation item request.0 request.1)
 
-abbrev r3 : ℕ → ℕ → ℕ → Fields → Result (Entry × Fields) ℕ
-r3 stamp shard incarnation fields = field_in (number_of 0 (2 ^ 32)) fields >>= (λ item. r4 stamp shard incarnation item.0 item.1)
+abbrev read_from_item : ℕ → ℕ → ℕ → Fields → Result (Entry × Fields) ℕ
+read_from_item stamp shard incarnation fields = field_in (number_of 0 (2 ^ 32)) fields >>= (λ item. read_from_request stamp shard incarnation item.0 item.1)
 
-abbrev r2 : ℕ → ℕ → Fields → Result (Entry × Fields) ℕ
-r2 stamp shard fields = field_in (number_of 0 (2 ^ 32)) fields >>= (λ incarnation. r3 stamp shard incarnation.0 incarnation.1)
+abbrev read_from_incarnation : ℕ → ℕ → Fields → Result (Entry × Fields) ℕ
+read_from_incarnation stamp shard fields = field_in (number_of 0 (2 ^ 32)) fields >>= (λ incarnation. read_from_item stamp shard incarnation.0 incarnation.1)
 
-abbrev r1 : ℕ → Fields → Result (Entry × Fields) ℕ
-r1 stamp fields = field_in (number_of 0 64) fields >>= (λ shard. r2 stamp shard.0 shard.1)
+abbrev read_from_shard : ℕ → Fields → Result (Entry × Fields) ℕ
+read_from_shard stamp fields = field_in (number_of 0 64) fields >>= (λ shard. read_from_incarnation stamp shard.0 shard.1)
 
-exact5 : (stamp shard incarnation item : ℕ) (request : Request) → IsExact (E5 stamp shard incarnation item request) after_request (r5 stamp shard incarnation item request)
-exact5 stamp shard incarnation item request =
-    exact_then FitsReply reply_fields reply_in (E6 stamp shard incarnation item request) (λ reply e. []) (λ reply fields. Ok (made stamp shard incarnation item request reply, fields)) after_request
+exact_from_reply : (stamp shard incarnation item : ℕ) (request : Request) → IsExact (IsFromReply stamp shard incarnation item request) after_request (read_from_reply stamp shard incarnation item request)
+exact_from_reply stamp shard incarnation item request =
+    exact_then FitsReply reply_fields reply_in (IsWhole stamp shard incarnation item request) (λ reply e. []) (λ reply fields. Ok (made stamp shard incarnation item request reply, fields)) after_request
     exact_reply (λ reply p. exact_done (made stamp shard incarnation item request reply)) (λ reply e p h. ap after_request h ∙ sym (append-nil (reply_fields reply)))
 
-exact4 : (stamp shard incarnation item : ℕ) → IsExact (E4 stamp shard incarnation item) after_item (r4 stamp shard incarnation item)
-exact4 stamp shard incarnation item =
-    exact_then FitsRequest request_fields request_in (E5 stamp shard incarnation item) (λ request e. after_request e) (r5 stamp shard incarnation item) after_item
-    exact_request (λ request p. exact5 stamp shard incarnation item request)
+exact_from_request : (stamp shard incarnation item : ℕ) → IsExact (IsFromRequest stamp shard incarnation item) after_item (read_from_request stamp shard incarnation item)
+exact_from_request stamp shard incarnation item =
+    exact_then FitsRequest request_fields request_in (IsFromReply stamp shard incarnation item) (λ request e. after_request e) (read_from_reply stamp shard incarnation item) after_item
+    exact_request (λ request p. exact_from_reply stamp shard incarnation item request)
     (λ request e p h. ap (λ x. request_fields x ++ after_request e) (ap (λ (x : Entry). x.request) h.2))
 
 abbrev Below : ℕ → ℕ → Type 0
 Below end n = n < end
 
-exact3 : (stamp shard incarnation : ℕ) → IsExact (E3 stamp shard incarnation) after_incarnation (r3 stamp shard incarnation)
-exact3 stamp shard incarnation =
-    exact_then (Below (2 ^ 32)) (λ n. decimal n ∷ []) (field_in (number_of 0 (2 ^ 32))) (E4 stamp shard incarnation) (λ item e. after_item e) (r4 stamp shard incarnation) after_incarnation
-    (exact_below (2 ^ 32) (omega arith) (omega arith)) (λ item p. exact4 stamp shard incarnation item)
+exact_from_item : (stamp shard incarnation : ℕ) → IsExact (IsFromItem stamp shard incarnation) after_incarnation (read_from_item stamp shard incarnation)
+exact_from_item stamp shard incarnation =
+    exact_then (Below (2 ^ 32)) (λ n. decimal n ∷ []) (field_in (number_of 0 (2 ^ 32))) (IsFromRequest stamp shard incarnation) (λ item e. after_item e) (read_from_request stamp shard incarnation) after_incarnation
+    (exact_below (2 ^ 32) (omega arith) (omega arith)) (λ item p. exact_from_request stamp shard incarnation item)
     (λ item e p h. ap (λ x. decimal x ∷ after_item e) (ap (λ (x : Entry). x.item) h.2.2))
 
-exact2 : (stamp shard : ℕ) → IsExact (E2 stamp shard) after_shard (r2 stamp shard)
-exact2 stamp shard =
-    exact_then (Below (2 ^ 32)) (λ n. decimal n ∷ []) (field_in (number_of 0 (2 ^ 32))) (E3 stamp shard) (λ incarnation e. after_incarnation e) (r3 stamp shard) after_shard
-    (exact_below (2 ^ 32) (omega arith) (omega arith)) (λ incarnation p. exact3 stamp shard incarnation)
+exact_from_incarnation : (stamp shard : ℕ) → IsExact (IsFromIncarnation stamp shard) after_shard (read_from_incarnation stamp shard)
+exact_from_incarnation stamp shard =
+    exact_then (Below (2 ^ 32)) (λ n. decimal n ∷ []) (field_in (number_of 0 (2 ^ 32))) (IsFromItem stamp shard) (λ incarnation e. after_incarnation e) (read_from_item stamp shard) after_shard
+    (exact_below (2 ^ 32) (omega arith) (omega arith)) (λ incarnation p. exact_from_item stamp shard incarnation)
     (λ incarnation e p h. ap (λ x. decimal x ∷ after_incarnation e) (ap (λ (x : Entry). x.incarnation) h.2.2.2))
 
-exact1 : (stamp : ℕ) → IsExact (E1 stamp) after_stamp (r1 stamp)
-exact1 stamp =
-    exact_then (Below 64) (λ n. decimal n ∷ []) (field_in (number_of 0 64)) (E2 stamp) (λ shard e. after_shard e) (r2 stamp) after_stamp
-    (exact_below 64 (omega arith) (omega arith)) (λ shard p. exact2 stamp shard)
+exact_from_shard : (stamp : ℕ) → IsExact (IsFromShard stamp) after_stamp (read_from_shard stamp)
+exact_from_shard stamp =
+    exact_then (Below 64) (λ n. decimal n ∷ []) (field_in (number_of 0 64)) (IsFromIncarnation stamp) (λ shard e. after_shard e) (read_from_incarnation stamp) after_stamp
+    (exact_below 64 (omega arith) (omega arith)) (λ shard p. exact_from_incarnation stamp shard)
     (λ shard e p h. ap (λ x. decimal x ∷ after_shard e) (ap (λ (x : Entry). x.shard) h.2.2.2.2))
 
-fits_as : (e : Entry) → (stamp : ℕ) × IsStamp stamp × E1 stamp e → Fits e
+fits_as : (e : Entry) → (stamp : ℕ) × IsStamp stamp × IsFromShard stamp e → Fits e
 fits_as e p =
     subst Fits (sym p.2.2.2.2.2.2)
     (record { stamp = p.1; shard = p.2.1; incarnation = p.2.2.1; item = p.2.2.2.1; request = p.2.2.2.2.1; reply = p.2.2.2.2.2.1 })
 
-as_fits : (e : Entry) → Fits e → (stamp : ℕ) × IsStamp stamp × E1 stamp e
+as_fits : (e : Entry) → Fits e → (stamp : ℕ) × IsStamp stamp × IsFromShard stamp e
 as_fits e f = (e.stamp, f.stamp, (e.shard, f.shard, (e.incarnation, f.incarnation, (e.item, f.item, (e.request, f.request, (e.reply, f.reply, refl))))))
 
 pub exact_parts : IsExact Fits entry_fields parts_in
 unfolding parts_in
 exact_parts =
-    exact_as (λ e. (stamp : ℕ) × IsStamp stamp × E1 stamp e) Fits entry_fields (λ fields. stamp_in fields >>= (λ stamp. r1 stamp.0 stamp.1))
+    exact_as (λ e. (stamp : ℕ) × IsStamp stamp × IsFromShard stamp e) Fits entry_fields (λ fields. stamp_in fields >>= (λ stamp. read_from_shard stamp.0 stamp.1))
     fits_as as_fits
-    (exact_then IsStamp (λ n. decimal n ∷ []) stamp_in E1 (λ stamp e. after_stamp e) r1 entry_fields
-    exact_stamp (λ stamp p. exact1 stamp)
+    (exact_then IsStamp (λ n. decimal n ∷ []) stamp_in IsFromShard (λ stamp e. after_stamp e) read_from_shard entry_fields
+    exact_stamp (λ stamp p. exact_from_shard stamp)
     (λ stamp e p h. ap (λ x. decimal x ∷ after_stamp e) (ap (λ (x : Entry). x.stamp) h.2.2.2.2.2)))
