@@ -1,7 +1,7 @@
 -- Connections' keys and values have one number each.
 use Rattle.std.proofs.Common.{◌≡◌, ℕ, Bool, true, false, Some, refl, ap, ◌∙◌}
 use Rattle.std.specs.Prelude.{◌&&◌, ◌==◌}
-use Rattle.std.specs.Option.{option_and_then}
+use Rattle.std.specs.Option.{option_map, option_and_then}
 use Rattle.std.proofs.lemmas.Bool.{eqb-true, eq-eqb, and_parts, and_from}
 use Rattle.slnf_base.specs.declared.addresses.Pair.{Pair}
 use Rattle.slnf_base.specs.declared.packets.Proto.{Proto}
@@ -9,10 +9,10 @@ use Rattle.slnf_base.specs.declared.packets.Proto.TheVariants.{Tcp, Udp}
 use Rattle.slnf_base.specs.declared.packets.Packet.{Packet}
 use Rattle.slnf_base.specs.Numbers.{proto_number}
 use Rattle.slnf_base.specs.Equal.{is_same_pair, is_same_proto}
-use Rattle.slnf_fw_table.specs.declared.connections.State.{State}
-use Rattle.slnf_fw_table.specs.declared.connections.State.TheVariants.{SynSent, SynAcked, Opened, FinByOpener, FinByOther, BothFin, Closed, Live}
-use Rattle.slnf_keys.specs.declared.keys.ConnKey.{ConnKey}
 use Rattle.slnf_base.specs.Ranges.{IsPair}
+use Rattle.slnf_fw_table.specs.declared.connections.State.{State}
+use Rattle.slnf_fw_table.proofs.Laws.{state_with-state_number}
+use Rattle.slnf_keys.specs.declared.keys.ConnKey.{ConnKey}
 use Rattle.slnf_keys.specs.Keys.{conn_key_number, conn_key_of, IsConnKey}
 use Rattle.slnf_keys.proofs.Laws.{coded_same, conn_key-coded, conn_of-conn_number}
 use Rattle.slnf_run.proofs.Tables.{IsKeyed}
@@ -50,14 +50,18 @@ conn_ext a b proto inside outside =
 
 same_conn : (a b : ConnKey) → is_same_conn a b ≡ true → a ≡ b
 same_conn a b h =
-    let parts = and_parts (is_same_proto a.proto b.proto) (is_same_pair a.inside b.inside && is_same_pair a.outside b.outside) h in
+    let parts = and_parts (is_same_proto a.proto b.proto)
+    (is_same_pair a.inside b.inside && is_same_pair a.outside b.outside) h in
     let pairs = and_parts (is_same_pair a.inside b.inside) (is_same_pair a.outside b.outside) parts.1 in
-    conn_ext a b (same_proto a.proto b.proto parts.0) (same_pair a.inside b.inside pairs.0) (same_pair a.outside b.outside pairs.1)
+    conn_ext a b (same_proto a.proto b.proto parts.0) (same_pair a.inside b.inside pairs.0)
+    (same_pair a.outside b.outside pairs.1)
 
 conn_itself : (a : ConnKey) → is_same_conn a a ≡ true
 conn_itself a =
-    and_from _ _ (eq-eqb (proto_number a.proto) (proto_number a.proto) refl) (and_from _ _ (pair_itself a.inside) (pair_itself a.outside))
+    and_from _ _ (eq-eqb (proto_number a.proto) (proto_number a.proto) refl)
+    (and_from _ _ (pair_itself a.inside) (pair_itself a.outside))
 
+-- the table of connections has keys that the store tells apart
 pub conn_keyed : IsKeyed conn_key_number IsConnKey is_same_conn
 conn_keyed = record {
   same = same_conn;
@@ -65,24 +69,16 @@ conn_keyed = record {
   apart = λ a b fits_a fits_b e. coded_same conn_key_number conn_key_of IsConnKey conn_key-coded a b fits_a fits_b e;
 }
 
-state_read : (b : Bool) (s : State)
-    → let t : Tracked = record { by_outside = b; state = s } in tracked_in (conn_value t) ≡ Some t
-state_read b SynSent = refl
-state_read b SynAcked = refl
-state_read b Opened = refl
-state_read b FinByOpener = refl
-state_read b FinByOther = refl
-state_read b BothFin = refl
-state_read b Closed = refl
-state_read b Live = refl
-
 -- what is kept is read from its number
-pub tracked_read : (t : Tracked) → tracked_of (tracked_number t) ≡ Some t
-tracked_read t = ap (option_and_then tracked_in) (conn_of-conn_number (conn_value t)) ∙ state_read t.by_outside t.state
+pub tracked_read : (tracked : Tracked) → tracked_of (tracked_number tracked) ≡ Some tracked
+tracked_read tracked =
+    let with_state : State → Tracked = λ state. record { by_outside = tracked.by_outside; state = state } in
+    ap (option_and_then tracked_in) (conn_of-conn_number (conn_value tracked))
+    ∙ ap (option_map with_state) (state_with-state_number tracked.state)
 
 -- a packet's connection is in range
-pub conn_fits : (policy : Policy) (packet : Packet) → IsPair packet.source → IsPair packet.dest
-    → IsConnKey (conn_of_packet policy packet)
+pub conn_fits : (policy : Policy) (packet : Packet) → IsPair packet.source → IsPair packet.dest →
+    IsConnKey (conn_of_packet policy packet)
 conn_fits policy packet source dest = go (from_outside policy packet)
   where
     go : (b : Bool) → IsConnKey (conn_by_side b packet)

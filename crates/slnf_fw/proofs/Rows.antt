@@ -1,6 +1,6 @@
 -- Worked rows: a whole connection at three instances, two replaces at once, and what no connection and a closed one let
 -- pass.
-use Rattle.std.proofs.Common.{◌≡◌, ℕ, true, false, Option, Some, None, List, [], ◌∷◌, ◌++◌, slice_index_or, refl, arith}
+use Rattle.std.proofs.Common.{◌≡◌, ℕ, true, false, Some, None, List, [], ◌∷◌, ◌++◌, slice_index_or, refl, arith}
 use Rattle.slnf_base.specs.declared.addresses.Pair.{Pair}
 use Rattle.slnf_base.specs.declared.addresses.Prefix.{Prefix}
 use Rattle.slnf_base.specs.declared.packets.Proto.TheVariants.{Tcp}
@@ -8,7 +8,6 @@ use Rattle.slnf_base.specs.declared.packets.Packet.{Packet}
 use Rattle.slnf_base.specs.declared.packets.Change.TheVariants.{Keep}
 use Rattle.slnf_base.specs.declared.packets.Reason.TheVariants.{DeniedRule, NoConn}
 use Rattle.slnf_base.specs.declared.packets.Verdict.TheVariants.{Emit, Dropped}
-use Rattle.slnf_access.specs.declared.requests.Key.{Key}
 use Rattle.slnf_access.specs.declared.requests.Entry.{Entry}
 use Rattle.slnf_access.specs.declared.requests.Request.{Request}
 use Rattle.slnf_access.specs.declared.requests.Request.TheVariants.{Read, PutIfAbsent, ReplaceIf}
@@ -23,7 +22,6 @@ use Rattle.slnf_keys.specs.Keys.{conn_key_number}
 use Rattle.slnf_keys.specs.Values.{conn_number, conn_of}
 use Rattle.slnf_run.specs.Scene.{own_of, stand_of}
 use Rattle.slnf_run.specs.Boxes.{content_after}
-use Rattle.slnf_fw.specs.declared.flights.Tracked.{Tracked}
 use Rattle.slnf_fw.specs.declared.choices.Choice.TheVariants.{Refuses, Writes}
 use Rattle.slnf_fw.specs.Packets.{Policy, conn_of_packet}
 use Rattle.slnf_fw.specs.Choices.{choice_of}
@@ -151,7 +149,8 @@ whole_closed : content_after (fw_scene policy (begins whole_lanes))
 unfolding conn_of
 whole_closed = refl
 
--- Two replaces: both sides' FIN+ACK find state 3. The client's comes first, the server's finds 4 and goes on from there.
+-- Two replaces: both sides' FIN+ACK find state 3. The client's comes first, and the server's finds 4 and goes on from
+-- there.
 abbrev both : List Entry
 both =
     handshake
