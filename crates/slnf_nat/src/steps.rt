@@ -131,11 +131,10 @@ fn released(
 {
     match FlowTo::from_number(value.0) {
         None => no_flow(),
-        Some(to) => go_out(
-            incarnation,
-            packet,
-            OutState::Release(place, version, to.outside),
-        ),
+        Some(to) => {
+            let state = OutState::Release(place, version, to.outside);
+            go_out(incarnation, packet, state)
+        }
     }
 }
 
@@ -178,15 +177,22 @@ pub fn after_out(
     }
 }
 
+/// A packet on its way in goes on.
+fn go_in(packet: Packet, state: InState) -> Step<NatFlight>
+    ensures { result ≡ StepGo (In state packet) }
+{
+    Step::Go(NatFlight {
+        course: Course::In(state, packet),
+    })
+}
+
 /// How a packet on its way in goes on whose destination has this claim.
 fn claimed(packet: Packet, value: Value) -> Step<NatFlight>
     ensures { result ≡ claimed packet (claim_of value.0) }
 {
     match Claim::from_number(value.0) {
         None => no_flow(),
-        Some(claim) => Step::Go(NatFlight {
-            course: Course::In(InState::LookFlow(claim.inside), packet),
-        }),
+        Some(claim) => go_in(packet, InState::LookFlow(claim.inside)),
     }
 }
 
