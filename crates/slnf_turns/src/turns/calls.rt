@@ -9,10 +9,10 @@ ghost use Rattle.slnf_turns.specs.Values.{AreFresh, AreKept, AreLast};
 ghost use Rattle.slnf_turns.specs.Passes.{view, shards, IsOf, IsRoot, HasNoTurn, HasTurn, KeepsKin, AllJoined, kept_view};
 
 use super::Turns;
-use super::steps::{put_in, take_out};
+use super::steps::{cut, put_in, take_out};
 use crate::chronicles::Chronicle;
 use crate::passes::{Held, Kept, Pass};
-use crate::plays::{Cut, Glue, Learn};
+use crate::plays::{Glue, Learn};
 use atomic_table::{Closed, Table};
 use slnf_base::NoMemory;
 use std::alloc::Global;
@@ -83,7 +83,7 @@ impl<B: Chronicle> Turns<B> {
         ensures pass { view result ≡ split_off (view root.old) }
         ensures root { view root.new ≡ after_split (view root.old) }
     {
-        let seat = self.table.shared.split_seat::<Cut>(&mut root.seat);
+        let seat = cut(&self.table.shared, &mut root.seat);
         Pass { seat }
     }
 

@@ -1,12 +1,14 @@
 //! The way to a turn and back, over a seat of the table.
-ghost use Rattle.std.specs.Prelude.{◌≡◌, ℕ, ◌*◌, ◌%◌, ◌^◌, ◌<◌, ◌≤◌, List, [], ◌∷◌, ◌++◌, None};
+ghost use Rattle.std.specs.Prelude.{◌≡◌, ℕ, ◌*◌, ◌%◌, ◌^◌, ◌<◌, ◌≤◌, ◌-◌, List, [], ◌∷◌, ◌++◌, None, length, true};
 ghost use Rattle.slnf_turns.specs.declared.views.Line.{Line};
 ghost use Rattle.slnf_turns.specs.declared.views.Stage.TheVariants.{Free, Waits, Turn, Open};
-ghost use Rattle.slnf_turns.specs.Views.{Begins, AllOf, seen_of, staged, after_open, after_raise};
+ghost use Rattle.slnf_turns.specs.Views.{Begins, AllOf, seen_of, staged, after_open, after_raise, after_split, split_off};
+ghost use Rattle.slnf_turns.specs.Hands.{is_resting};
+ghost use Rattle.slnf_turns.specs.Passes.{IsRoot};
 ghost use Rattle.slnf_turns.specs.Seats.{IsSized, IsAt};
 
 use crate::chronicles::Chronicle;
-use crate::plays::{Draw, Enter, Look, Note, Raise};
+use crate::plays::{Cut, Draw, Enter, Look, Note, Raise};
 use crate::rule::{Place, Top};
 use std::sync::Wait;
 use std::{hint, thread};
@@ -62,6 +64,21 @@ pub(super) fn take_out<B: Chronicle, R: Wait>(
     wait(rt, top, place, shard, ticket);
     top.load::<Enter>(place, 32 * shard + 16);
     top.exchange(place, shard, None).unwrap()
+}
+
+// Gives the next number to a place of its own.
+pub(super) fn cut<B: Chronicle>(top: &Top<B>, root: &mut Place<B>) -> Place<B>
+    requires table { IsAt top.now root.old × IsSized top.now }
+    requires root { IsRoot root.old.me.0 }
+    requires resting { is_resting root.old.table_id.slots root.old.me.0.stage ≡ true }
+    requires few { length root.old.me.0.before < 2 ^ 32 - 2 }
+    ensures table { IsAt top.now root.new × IsAt top.now result }
+    ensures root { root.new.me ≡ (after_split root.old.me.0, root.old.me.1) }
+    ensures number { result.me ≡ (split_off root.old.me.0, []) }
+{
+    let next = top.split_seat::<Cut>(root);
+    // The root keeps its own place.
+    next
 }
 
 // Puts the value back into the slot, publishes the lines that it grew by, and lets the next one have its turn.
