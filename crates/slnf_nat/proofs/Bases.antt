@@ -14,7 +14,9 @@ pub base_of-below : (eras : List Era) (i : ℕ) → own_base eras i ≤ i
 base_of-below [] i = omega arith
 base_of-below (era ∷ eras) i = go (nat_lt i (length era.actors)) refl (base_of-below eras (i - length era.actors))
   where
-    go : (b : Bool) → nat_lt i (length era.actors) ≡ b → own_base eras (i - length era.actors) ≤ i - length era.actors → base_of (era ∷ eras) (cond b 0 (era_of eras (i - length era.actors) + 1)) ≤ i
+    go : (b : Bool) → nat_lt i (length era.actors) ≡ b
+        → own_base eras (i - length era.actors) ≤ i - length era.actors → base_of (era ∷ eras)
+        (cond b 0 (era_of eras (i - length era.actors) + 1)) ≤ i
     go true w rest = omega arith
     go false w rest =
         let high : length era.actors ≤ i = ltb-false i (length era.actors) w in

@@ -46,7 +46,8 @@ Boxes nat c flight next choice None = IsBoxed c next
 Boxes nat c flight next choice (Some verdict) = BoxesBy nat c flight next choice verdict (is_in flight && is_no_flow verdict)
 
 -- pairs and protocols that pass the test are one
-pair_ext : (a b p q : ℕ) → a ≡ b → p ≡ q → let left : Pair = record { addr = a; port = p } in left ≡ record { addr = b; port = q }
+pair_ext : (a b p q : ℕ) → a ≡ b → p ≡ q
+    → let left : Pair = record { addr = a; port = p } in left ≡ record { addr = b; port = q }
 pair_ext a b p q addr port =
     let at_addr : ℕ → Pair = λ n. record { addr = n; port = p } in
     let at_port : ℕ → Pair = λ n. record { addr = b; port = n } in
@@ -82,25 +83,34 @@ boxed_same c cells next stay boxed = record {
 }
 
 -- a packet on its way out whose flow is there
-pub boxed_known : (nat : Nat) (c : List Flow) (cells : Cells) (packet : Packet) (choice : Option Pair) (port : Pair) → nat.is_out packet ≡ true → IsPair packet.source → flow_at cells packet.proto packet.source ≡ Some port → IsBoxed c cells → (nat_verdict nat c (record { packet = packet; choice = choice }) ≡ Emit (Source port)) × IsBoxed (nat_next nat c (record { packet = packet; choice = choice })) cells
+pub boxed_known : (nat : Nat) (c : List Flow) (cells : Cells) (packet : Packet) (choice : Option Pair) (port : Pair)
+    → nat.is_out packet ≡ true → IsPair packet.source → flow_at cells packet.proto packet.source ≡ Some port
+    → IsBoxed c cells
+    → (nat_verdict nat c (record { packet = packet; choice = choice }) ≡ Emit (Source port)) × IsBoxed (nat_next nat c (record { packet = packet; choice = choice })) cells
 boxed_known nat c cells packet choice port out fits there boxed =
     let known : pair_of c packet.proto packet.source ≡ Some port = boxed.agrees packet.proto packet.source fits ∙ there in
     (rw (out, known) refl, rw (out, known) boxed)
 
 -- one whose flow isn't there, without a choice
-pub boxed_none : (nat : Nat) (c : List Flow) (cells : Cells) (packet : Packet) → nat.is_out packet ≡ true → IsPair packet.source → flow_at cells packet.proto packet.source ≡ None → IsBoxed c cells → (nat_verdict nat c (record { packet = packet; choice = None }) ≡ Dropped NoPort) × IsBoxed (nat_next nat c (record { packet = packet; choice = None })) cells
+pub boxed_none : (nat : Nat) (c : List Flow) (cells : Cells) (packet : Packet) → nat.is_out packet ≡ true
+    → IsPair packet.source → flow_at cells packet.proto packet.source ≡ None → IsBoxed c cells
+    → (nat_verdict nat c (record { packet = packet; choice = None }) ≡ Dropped NoPort) × IsBoxed (nat_next nat c (record { packet = packet; choice = None })) cells
 boxed_none nat c cells packet out fits none boxed =
     let known : pair_of c packet.proto packet.source ≡ None = boxed.agrees packet.proto packet.source fits ∙ none in
     (rw (out, known) refl, rw (out, known) boxed)
 
 -- a packet on its way in whose destination a flow has
-pub boxed_in : (nat : Nat) (c : List Flow) (cells : Cells) (packet : Packet) (choice : Option Pair) (inside : Pair) → nat.is_out packet ≡ false → nat.is_in packet ≡ true → IsPair inside → flow_at cells packet.proto inside ≡ Some packet.dest → IsBoxed c cells → (nat_verdict nat c (record { packet = packet; choice = choice }) ≡ Emit (Dest inside)) × IsBoxed (nat_next nat c (record { packet = packet; choice = choice })) cells
+pub boxed_in : (nat : Nat) (c : List Flow) (cells : Cells) (packet : Packet) (choice : Option Pair) (inside : Pair)
+    → nat.is_out packet ≡ false → nat.is_in packet ≡ true → IsPair inside
+    → flow_at cells packet.proto inside ≡ Some packet.dest → IsBoxed c cells
+    → (nat_verdict nat c (record { packet = packet; choice = choice }) ≡ Emit (Dest inside)) × IsBoxed (nat_next nat c (record { packet = packet; choice = choice })) cells
 boxed_in nat c cells packet choice inside out comes fits there boxed =
     let has : owner c packet.proto packet.dest ≡ Some inside = boxed.forth packet.proto inside packet.dest (boxed.agrees packet.proto inside fits ∙ there) in
     (rw (out, comes, has) refl, rw out boxed)
 
 -- no flow of the box has a pair that no live flow has
-pub boxed_free : (c : List Flow) (cells : Cells) (proto : Proto) (port : Pair) → IsUnnamed cells proto port → IsBoxed c cells → owner c proto port ≡ None
+pub boxed_free : (c : List Flow) (cells : Cells) (proto : Proto) (port : Pair) → IsUnnamed cells proto port
+    → IsBoxed c cells → owner c proto port ≡ None
 boxed_free c cells proto port unnamed boxed = go (owner c proto port) refl
   where
     go : (o : Option Pair) → owner c proto port ≡ o → owner c proto port ≡ None
@@ -121,10 +131,13 @@ module _ (c : List Flow) (cells next : Cells) (own : Proto) (mine at : Pair) (mi
   free : owner c own at ≡ None
   free = boxed_free c cells own at unnamed boxed
 
-  agrees : (proto : Proto) (inside : Pair) → IsPair inside → pair_of (new ∷ c) proto inside ≡ flow_at next proto inside
+  agrees : (proto : Proto) (inside : Pair) → IsPair inside
+      → pair_of (new ∷ c) proto inside ≡ flow_at next proto inside
   agrees proto inside fits = go (is_same_proto own proto && is_same_pair mine inside) refl (other proto inside fits)
     where
-      go : (b : Bool) → (is_same_proto own proto && is_same_pair mine inside) ≡ b → ((proto ≡ own) × (inside ≡ mine)) ⊎ (next (flow_key proto inside) ≡ cells (flow_key proto inside)) → cond b (Some at) (pair_of c proto inside) ≡ flow_at next proto inside
+      go : (b : Bool) → (is_same_proto own proto && is_same_pair mine inside) ≡ b
+          → ((proto ≡ own) × (inside ≡ mine)) ⊎ (next (flow_key proto inside) ≡ cells (flow_key proto inside))
+          → cond b (Some at) (pair_of c proto inside) ≡ flow_at next proto inside
       go true w o =
           let same : (proto ≡ own) × (inside ≡ mine) = both_same own proto mine inside w in
           sym (ap (λ q. flow_at next q inside) same.0 ∙ ap (flow_at next own) same.1 ∙ here)
@@ -134,14 +147,18 @@ module _ (c : List Flow) (cells next : Cells) (own : Proto) (mine at : Pair) (mi
   fits_all : (proto : Proto) (inside port : Pair) → pair_of (new ∷ c) proto inside ≡ Some port → IsPair inside
   fits_all proto inside port h = go (is_same_proto own proto && is_same_pair mine inside) refl h
     where
-      go : (b : Bool) → (is_same_proto own proto && is_same_pair mine inside) ≡ b → cond b (Some at) (pair_of c proto inside) ≡ Some port → IsPair inside
+      go : (b : Bool) → (is_same_proto own proto && is_same_pair mine inside) ≡ b → cond b (Some at)
+          (pair_of c proto inside) ≡ Some port → IsPair inside
       go true w h = subst IsPair (sym (both_same own proto mine inside w).1) mine_fits
       go false w h = boxed.fits proto inside port h
 
-  back : (proto : Proto) (inside port : Pair) → owner (new ∷ c) proto port ≡ Some inside → pair_of (new ∷ c) proto inside ≡ Some port
+  back : (proto : Proto) (inside port : Pair) → owner (new ∷ c) proto port ≡ Some inside
+      → pair_of (new ∷ c) proto inside ≡ Some port
   back proto inside port h = go (is_same_proto own proto && is_same_pair at port) refl (is_same_proto own proto && is_same_pair mine inside) refl h
     where
-      go : (b : Bool) → (is_same_proto own proto && is_same_pair at port) ≡ b → (d : Bool) → (is_same_proto own proto && is_same_pair mine inside) ≡ d → cond b (Some mine) (owner c proto port) ≡ Some inside → cond d (Some at) (pair_of c proto inside) ≡ Some port
+      go : (b : Bool) → (is_same_proto own proto && is_same_pair at port) ≡ b → (d : Bool)
+          → (is_same_proto own proto && is_same_pair mine inside) ≡ d → cond b (Some mine)
+          (owner c proto port) ≡ Some inside → cond d (Some at) (pair_of c proto inside) ≡ Some port
       go true w true v h = ap (λ (p : Pair). Some p) (sym (both_same own proto at port w).1)
       go true w false v h =
           let t : (is_same_proto own proto && is_same_pair mine inside) ≡ true = same_both own proto mine inside (both_same own proto at port w).0 (sym (same_Some mine inside h)) in
@@ -153,10 +170,13 @@ module _ (c : List Flow) (cells next : Cells) (own : Proto) (mine at : Pair) (mi
           absurd (cc)
       go false w false v h = boxed.back proto inside port h
 
-  forth : (proto : Proto) (inside port : Pair) → pair_of (new ∷ c) proto inside ≡ Some port → owner (new ∷ c) proto port ≡ Some inside
+  forth : (proto : Proto) (inside port : Pair) → pair_of (new ∷ c) proto inside ≡ Some port
+      → owner (new ∷ c) proto port ≡ Some inside
   forth proto inside port h = go (is_same_proto own proto && is_same_pair at port) refl (is_same_proto own proto && is_same_pair mine inside) refl h
     where
-      go : (b : Bool) → (is_same_proto own proto && is_same_pair at port) ≡ b → (d : Bool) → (is_same_proto own proto && is_same_pair mine inside) ≡ d → cond d (Some at) (pair_of c proto inside) ≡ Some port → cond b (Some mine) (owner c proto port) ≡ Some inside
+      go : (b : Bool) → (is_same_proto own proto && is_same_pair at port) ≡ b → (d : Bool)
+          → (is_same_proto own proto && is_same_pair mine inside) ≡ d → cond d (Some at)
+          (pair_of c proto inside) ≡ Some port → cond b (Some mine) (owner c proto port) ≡ Some inside
       go true w true v h = ap (λ (p : Pair). Some p) (sym (both_same own proto mine inside v).1)
       go true w false v h =
           let same : (proto ≡ own) × (port ≡ at) = both_same own proto at port w in
@@ -172,7 +192,12 @@ module _ (c : List Flow) (cells next : Cells) (own : Proto) (mine at : Pair) (mi
   boxed_put = record { agrees = agrees; fits = fits_all; back = back; forth = forth }
 
 -- a packet on its way out whose flow isn't there, with a choice of the pool that no flow has
-pub boxed_new : (nat : Nat) (c : List Flow) (cells next : Cells) (packet : Packet) (at : Pair) → nat.is_out packet ≡ true → nat.allows packet.source at ≡ true → IsPair packet.source → flow_at next packet.proto packet.source ≡ Some at → ((proto : Proto) (inside : Pair) → IsPair inside → ((proto ≡ packet.proto) × (inside ≡ packet.source)) ⊎ (next (flow_key proto inside) ≡ cells (flow_key proto inside))) → flow_at cells packet.proto packet.source ≡ None → IsUnnamed cells packet.proto at → IsBoxed c cells → (nat_verdict nat c (record { packet = packet; choice = Some at }) ≡ Emit (Source at)) × IsBoxed (nat_next nat c (record { packet = packet; choice = Some at })) next
+pub boxed_new : (nat : Nat) (c : List Flow) (cells next : Cells) (packet : Packet) (at : Pair)
+    → nat.is_out packet ≡ true → nat.allows packet.source at ≡ true → IsPair packet.source
+    → flow_at next packet.proto packet.source ≡ Some at
+    → ((proto : Proto) (inside : Pair) → IsPair inside → ((proto ≡ packet.proto) × (inside ≡ packet.source)) ⊎ (next (flow_key proto inside) ≡ cells (flow_key proto inside)))
+    → flow_at cells packet.proto packet.source ≡ None → IsUnnamed cells packet.proto at → IsBoxed c cells
+    → (nat_verdict nat c (record { packet = packet; choice = Some at }) ≡ Emit (Source at)) × IsBoxed (nat_next nat c (record { packet = packet; choice = Some at })) next
 boxed_new nat c cells next packet at out has fits here other absent unnamed boxed =
     let known : pair_of c packet.proto packet.source ≡ None = boxed.agrees packet.proto packet.source fits ∙ absent in
     let free : owner c packet.proto at ≡ None = boxed_free c cells packet.proto at unnamed boxed in

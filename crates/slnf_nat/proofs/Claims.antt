@@ -1,4 +1,4 @@
--- AllByRecursion claim was put by a packet on its way out, whose source it names.
+-- Each claim was put by a packet on its way out, whose source it names.
 use Rattle.std.proofs.Common.{◌≡◌, inl, inr, ℕ, zero, suc, ◌≤◌, Some, None, List, [], ◌∷◌, ◌++◌, length, take, drop, ap, sym, ◌∙◌, subst, arith}
 use Rattle.std.proofs.lemmas.Option.{same_Some}
 use Rattle.slnf_base.specs.declared.addresses.Pair.{Pair}
@@ -6,12 +6,10 @@ use Rattle.slnf_base.specs.declared.packets.Proto.{Proto}
 use Rattle.slnf_base.specs.declared.packets.Packet.{Packet}
 use Rattle.slnf_access.specs.declared.requests.Held.{Held}
 use Rattle.slnf_access.specs.declared.requests.Entry.{Entry}
-use Rattle.slnf_access.specs.Map.{Cells, empty, map_after}
+use Rattle.slnf_access.specs.Map.{empty, map_after}
 use Rattle.slnf_access.specs.Machines.{Stand, Flies, Ends}
 use Rattle.slnf_access.proofs.Laws.{cell_of-append}
 use Rattle.slnf_keys.specs.declared.values.Claim.{Claim}
-use Rattle.slnf_base.specs.Ranges.{IsPair}
-use Rattle.slnf_keys.specs.Values.{claim_of}
 use Rattle.slnf_run.proofs.Splits.{IsSplit, split_at}
 use Rattle.slnf_nat.specs.Flights.{Look, Try, Confirm, Release, Last, NatFlight, Out, In, Sweep, first_of}
 use Rattle.slnf_nat.specs.Machine.{Nat, port_key, nat_goes}
@@ -24,7 +22,9 @@ use Rattle.slnf_nat.proofs.Nexts.{IsNextOf, next_of}
 use Rattle.slnf_nat.proofs.Hangs.{Left, left_after}
 
 -- an item that hangs on a claim is a packet on its way out with that source
-hangs_packet : (nat : Nat) (proto : Proto) (port inside : Pair) (since : ℕ) (first : NatFlight) (st : Stand NatFlight) → BeganSo first st → Hangs nat proto port inside since st → (i : ℕ) × (packet : Packet) × (first ≡ Out Look i packet) × (packet.proto ≡ proto) × (packet.source ≡ inside)
+hangs_packet : (nat : Nat) (proto : Proto) (port inside : Pair) (since : ℕ) (first : NatFlight)
+    (st : Stand NatFlight) → BeganSo first st → Hangs nat proto port inside since st
+    → (i : ℕ) × (packet : Packet) × (first ≡ Out Look i packet) × (packet.proto ≡ proto) × (packet.source ≡ inside)
 hangs_packet nat proto port inside since first (Flies (Out Look i packet)) b h = absurd h
 hangs_packet nat proto port inside since first (Flies (Out (Try number) i packet)) b h = absurd h
 hangs_packet nat proto port inside since first (Flies (Out (Confirm number version) i packet)) b h = (i, packet, sym b, h.0, h.1)
@@ -35,7 +35,8 @@ hangs_packet nat proto port inside since first (Flies (Sweep state q p base)) b 
 hangs_packet nat proto port inside since first (Ends end) b h = absurd h
 
 module _ (nat : Nat) (is_nat : IsNat nat) (base_at : ℕ → ℕ) (begins : ℕ → ℕ → Stand NatFlight) (es : List Entry) (given : IsNatList nat base_at begins es) where
-  step : (before later : List Entry) (e : Entry) → es ≡ before ++ e ∷ later → HaveSources begins (map_after empty before) → HaveSources begins (map_after empty (before ++ e ∷ []))
+  step : (before later : List Entry) (e : Entry) → es ≡ before ++ e ∷ later
+      → HaveSources begins (map_after empty before) → HaveSources begins (map_after empty (before ++ e ∷ []))
   step before later e split all = subst (HaveSources begins) (sym push) next_all
     where
       push : map_after empty (before ++ e ∷ []) ≡ after (map_after empty before) e
@@ -47,7 +48,8 @@ module _ (nat : Nat) (is_nat : IsNat nat) (base_at : ℕ → ℕ) (begins : ℕ 
       next_all : HaveSources begins (after (map_after empty before) e)
       next_all proto port claim held fits there reads = go (left_after nat is_nat base_at e (map_after empty before) next.0 proto port held next.1.asked next.1.replied next.1.ranged fits there)
         where
-          go : Left nat is_nat base_at e (map_after empty before) next.0 proto port (map_after empty before (port_key proto port)) held → HasSource begins proto claim.inside
+          go : Left nat is_nat base_at e (map_after empty before) next.0 proto port (map_after empty before (port_key proto port)) held
+              → HasSource begins proto claim.inside
           go (inl was) = all proto port claim held fits was reads
           go (inr new) =
               let same : (let c : Claim = record { incarnation = e.incarnation; inside = new.0 } in c) ≡ claim = same_Some _ claim (sym new.1 ∙ reads) in

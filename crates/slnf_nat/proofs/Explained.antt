@@ -31,7 +31,7 @@ use Rattle.slnf_nat.specs.Flights.{LookPort, LookFlow, NatFlight, Out, In, Sweep
 use Rattle.slnf_nat.specs.Machine.{Nat, flow_key, nat_asks, nat_goes, nat_decided, nat_machine, claimed, entered}
 use Rattle.slnf_nat.specs.NatBox.{Flow, NatArrival, pair_of, owner, nat_verdict, nat_next, nat_box, flow_in, flow_at, outside_of, IsSameFlows}
 use Rattle.slnf_nat.specs.NatScene.{is_no_flow, is_in, put_on, nat_arrival, nat_scene}
-use Rattle.slnf_nat.specs.Kept.{Holds, IsBoxed, IsKept}
+use Rattle.slnf_nat.specs.Kept.{Holds, IsBoxed, IsNatKept}
 use Rattle.slnf_nat.specs.Given.{IsNat, IsRanged, IsNatList}
 use Rattle.slnf_nat.proofs.Effects.{after, read_reply}
 use Rattle.slnf_nat.proofs.Boxing.{Boxes, BoxesBy, choice_for, decides, pair_same}
@@ -48,11 +48,13 @@ map_push : (es : List Entry) (e : Entry) → map_after empty (es ++ e ∷ []) �
 map_push es e = λ i key. cell_of-append key None es (e ∷ []) i
 
 -- what a cell with an outside pair has
-pub flow_there : (cell : Option Held) (port : Pair) → flow_in cell ≡ Some port → (held : Held) × (cell ≡ Some held) × (outside_of (flow_to_of held.value.0) ≡ Some port)
+pub flow_there : (cell : Option Held) (port : Pair) → flow_in cell ≡ Some port
+    → (held : Held) × (cell ≡ Some held) × (outside_of (flow_to_of held.value.0) ≡ Some port)
 flow_there None port h = absurd (cc)
 flow_there (Some held) port h = (held, refl, h)
 
-record_there : (o : Option FlowTo) (port : Pair) → outside_of o ≡ Some port → (to : FlowTo) × (o ≡ Some to) × (to.outside ≡ port)
+record_there : (o : Option FlowTo) (port : Pair) → outside_of o ≡ Some port
+    → (to : FlowTo) × (o ≡ Some to) × (to.outside ≡ port)
 record_there None port h = absurd (cc)
 record_there (Some to) port h = (to, refl, same_Some to.outside port h)
 
@@ -60,18 +62,22 @@ emits_drops : (change : Change) → Some (Emit change) ≡ Some (Dropped NoFlow)
 emits_drops change h = cc
 
 -- a packet that looks for the claim's flow and isn't decided has made no access since
-still_looks : (nat : Nat) (packet : Packet) (inside : Pair) (xs : List Entry) → decided_at (nat_machine nat) (stand_after (nat_machine nat) (Flies (In (LookFlow inside) packet)) xs) ≡ None → stand_after (nat_machine nat) (Flies (In (LookFlow inside) packet)) xs ≡ Flies (In (LookFlow inside) packet)
+still_looks : (nat : Nat) (packet : Packet) (inside : Pair) (xs : List Entry) → decided_at (nat_machine nat)
+    (stand_after (nat_machine nat) (Flies (In (LookFlow inside) packet)) xs) ≡ None → stand_after (nat_machine nat)
+    (Flies (In (LookFlow inside) packet)) xs ≡ Flies (In (LookFlow inside) packet)
 still_looks nat packet inside [] h = refl
 still_looks nat packet inside (x ∷ xs) h = absurd (go x.reply h)
   where
     end : (v : Verdict) → decided_at (nat_machine nat) (stand_after (nat_machine nat) (Ends (Some v)) xs) ≡ None → ⊥
     end v h = let e : decided_at (nat_machine nat) (stand_after (nat_machine nat) (Ends (Some v)) xs) ≡ Some v = ap (decided_at (nat_machine nat)) (ended_stays nat (Some v) xs) in cc
 
-    by : (o : Option FlowTo) → decided_at (nat_machine nat) (stand_after (nat_machine nat) (stand_of_step (entered packet inside o)) xs) ≡ None → ⊥
+    by : (o : Option FlowTo) → decided_at (nat_machine nat)
+        (stand_after (nat_machine nat) (stand_of_step (entered packet inside o)) xs) ≡ None → ⊥
     by None h = end _ h
     by (Some to) h = end _ h
 
-    go : (reply : Reply) → decided_at (nat_machine nat) (stand_after (nat_machine nat) (nat_goes nat (In (LookFlow inside) packet) reply) xs) ≡ None → ⊥
+    go : (reply : Reply) → decided_at (nat_machine nat)
+        (stand_after (nat_machine nat) (nat_goes nat (In (LookFlow inside) packet) reply) xs) ≡ None → ⊥
     go (Done stamp) h = end _ h
     go (Found value stamp) h = by (flow_to_of value.0) h
     go Absent h = end _ h
@@ -79,7 +85,7 @@ still_looks nat packet inside (x ∷ xs) h = absurd (go x.reply h)
 module _ (nat : Nat) (is_nat : IsNat nat) (base_at : ℕ → ℕ) (begins : ℕ → ℕ → Stand NatFlight) (es : List Entry) (given : IsNatList nat base_at begins es) where
   -- the invariant
   abbrev pub Inv : List Entry → List Flow → Type 0
-  Inv before c = IsKept nat base_at begins before (map_after empty before) (λ i k. stand_of (nat_scene nat begins) i k before) c
+  Inv before c = IsNatKept nat base_at begins before (map_after empty before) (λ i k. stand_of (nat_scene nat begins) i k before) c
 
   -- It holds at first.
   holds_first : (i k : ℕ) (flight : NatFlight) → Holds nat base_at [] empty i k (first_of flight)
@@ -109,7 +115,7 @@ module _ (nat : Nat) (is_nat : IsNat nat) (base_at : ℕ → ℕ) (begins : ℕ 
   }
 
   -- At each entry.
-  module _ (before later : List Entry) (e : Entry) (c : List Flow) (split : es ≡ before ++ e ∷ later) (kept : IsKept nat base_at begins before (map_after empty before) (λ i k. stand_of (nat_scene nat begins) i k before) c) (flight : NatFlight) (next : IsNextOf nat base_at begins before e flight) where
+  module _ (before later : List Entry) (e : Entry) (c : List Flow) (split : es ≡ before ++ e ∷ later) (kept : IsNatKept nat base_at begins before (map_after empty before) (λ i k. stand_of (nat_scene nat begins) i k before) c) (flight : NatFlight) (next : IsNextOf nat base_at begins before e flight) where
     abbrev cells : Cells
     cells = map_after empty before
 
@@ -122,7 +128,7 @@ module _ (nat : Nat) (is_nat : IsNat nat) (base_at : ℕ → ℕ) (begins : ℕ 
     -- all but the box
     kept_but : (d : List Flow) → IsBoxed d (after (map_after empty before) e) → Inv (before ++ e ∷ []) d
     kept_but d boxed =
-        subst (λ m. IsKept nat base_at begins (before ++ e ∷ []) m (λ i k. stand_of (nat_scene nat begins) i k (before ++ e ∷ [])) d) (sym (map_push before e)) (record {
+        subst (λ m. IsNatKept nat base_at begins (before ++ e ∷ []) m (λ i k. stand_of (nat_scene nat begins) i k (before ++ e ∷ [])) d) (sym (map_push before e)) (record {
           stamped = stamped_step before e (map_after empty before) (rising_before es before later e given.rising split) kept.stamped;
           live = outcome.live;
           flying =
@@ -141,7 +147,8 @@ module _ (nat : Nat) (is_nat : IsNat nat) (base_at : ℕ → ℕ) (begins : ℕ 
     front : take number es ≡ before
     front = ap (take (length before)) split ∙ take-append_seam before (e ∷ later)
 
-    here : decision_at (nat_scene nat begins) es number ≡ decision_of (Flies (first_of flight)) (decides nat flight e.reply)
+    here : decision_at (nat_scene nat begins) es number ≡ decision_of (Flies (first_of flight))
+        (decides nat flight e.reply)
     here = decided_here nat is_nat base_at begins es given before later e flight split next
 
     -- where a packet looks for the claim of its destination, no flow has it if it is decided later that none does
@@ -185,17 +192,21 @@ module _ (nat : Nat) (is_nat : IsNat nat) (base_at : ℕ → ℕ) (begins : ℕ 
             let r : (h : NatFlight) × IsNextOf nat base_at begins (take d es) f h = next_of nat is_nat base_at begins es given (take d es) (drop (suc d) es) f d_split in
             at_end middle long d_split r.0 r.1
           where
-            at_end : (middle : List Entry) → take d es ≡ (before ++ e ∷ []) ++ middle → es ≡ take d es ++ f ∷ drop (suc d) es → (h : NatFlight) → IsNextOf nat base_at begins (take d es) f h → ⊥
+            at_end : (middle : List Entry) → take d es ≡ (before ++ e ∷ []) ++ middle
+                → es ≡ take d es ++ f ∷ drop (suc d) es → (h : NatFlight)
+                → IsNextOf nat base_at begins (take d es) f h → ⊥
             at_end middle long d_split h there = emits_drops (Dest g) (sym emits ∙ dropped)
               where
                 -- the packet stands still
-                stands_e : stand_of (nat_scene nat begins) e.incarnation e.item (take d es) ≡ stand_after (nat_machine nat) (Flies (In (LookFlow g) packet)) (own_of e.incarnation e.item middle)
+                stands_e : stand_of (nat_scene nat begins) e.incarnation e.item (take d es) ≡ stand_after (nat_machine nat)
+                    (Flies (In (LookFlow g) packet)) (own_of e.incarnation e.item middle)
                 stands_e =
                     ap (stand_of (nat_scene nat begins) e.incarnation e.item) long
                     ∙ stand_of-append (nat_scene nat begins) e.incarnation e.item (before ++ e ∷ []) middle
                     ∙ ap (λ st. stand_after (nat_machine nat) st (own_of e.incarnation e.item middle)) (next_stands nat is_nat base_at begins es given before e flight next ∙ goes_on)
 
-                stands_f : stand_of (nat_scene nat begins) f.incarnation f.item (take d es) ≡ stand_after (nat_machine nat) (Flies (In (LookFlow g) packet)) (own_of e.incarnation e.item middle)
+                stands_f : stand_of (nat_scene nat begins) f.incarnation f.item (take d es) ≡ stand_after (nat_machine nat)
+                    (Flies (In (LookFlow g) packet)) (own_of e.incarnation e.item middle)
                 stands_f = ap (λ i. stand_of (nat_scene nat begins) i f.item (take d es)) (sym own_i) ∙ ap (λ k. stand_of (nat_scene nat begins) e.incarnation k (take d es)) (sym own_k) ∙ stands_e
 
                 looks : stand_of (nat_scene nat begins) f.incarnation f.item (take d es) ≡ Flies (In (LookFlow g) packet)
@@ -228,14 +239,16 @@ module _ (nat : Nat) (is_nat : IsNat nat) (base_at : ℕ → ℕ) (begins : ℕ 
                 to : (to : FlowTo) × (flow_to_of flow.0.value.0 ≡ Some to) × (to.outside ≡ packet.dest)
                 to = record_there (flow_to_of flow.0.value.0) packet.dest flow.2
 
-                emits : decided_at (nat_machine nat) (stand_step (nat_machine nat) (stand_of (nat_scene nat begins) f.incarnation f.item (take d es)) f) ≡ Some (Emit (Dest g))
+                emits : decided_at (nat_machine nat)
+                    (stand_step (nat_machine nat) (stand_of (nat_scene nat begins) f.incarnation f.item (take d es)) f) ≡ Some (Emit (Dest g))
                 emits =
                     ap (λ st. decided_at (nat_machine nat) (stand_step (nat_machine nat) st f)) looks
                     ∙ ap (λ r. decided_at (nat_machine nat) (nat_goes nat (In (LookFlow g) packet) r)) reply
                     ∙ ap (λ o. decided_at (nat_machine nat) (stand_of_step (entered packet g o))) to.1
                     ∙ ap (λ b. Some (cond b (Emit (Dest g)) (Dropped NoFlow))) (pair_same to.0.outside packet.dest to.2)
 
-                dropped : decided_at (nat_machine nat) (stand_step (nat_machine nat) (stand_of (nat_scene nat begins) f.incarnation f.item (take d es)) f) ≡ Some (Dropped NoFlow)
+                dropped : decided_at (nat_machine nat)
+                    (stand_step (nat_machine nat) (stand_of (nat_scene nat begins) f.incarnation f.item (take d es)) f) ≡ Some (Dropped NoFlow)
                 dropped = whole.after ∙ ap (λ v. Some v) none
 
         not_named : ⊥
@@ -261,7 +274,11 @@ module _ (nat : Nat) (is_nat : IsNat nat) (base_at : ℕ → ℕ) (begins : ℕ 
     IsQuiet = (x : Decision NatFlight) → decision_at (nat_scene nat begins) es number ≡ Some x → (is_in x.first && is_no_flow x.verdict) ≡ true
 
     -- then each visit finds no flow, and leaves the box as it is
-    moved_visit : (d : ℕ) (v : Visit NatArrival) (r : IsVisit (nat_scene nat begins) es (length before) e d v) → e.incarnation ≡ r.decider.incarnation → e.item ≡ r.decider.item → (is_in r.decision.first && is_no_flow r.decision.verdict) ≡ true → first_with es d (slice_get es d) ≡ length before → Fits v.verdict (nat_verdict nat c v.arrival) × (nat_next nat c v.arrival ≡ c)
+    moved_visit : (d : ℕ) (v : Visit NatArrival) (r : IsVisit (nat_scene nat begins) es (length before) e d v)
+        → e.incarnation ≡ r.decider.incarnation → e.item ≡ r.decider.item
+        → (is_in r.decision.first && is_no_flow r.decision.verdict) ≡ true
+        → first_with es d (slice_get es d) ≡ length before
+        → Fits v.verdict (nat_verdict nat c v.arrival) × (nat_next nat c v.arrival ≡ c)
     moved_visit d v r own_i own_k moved place =
         let parts : (is_in r.decision.first ≡ true) × (is_no_flow r.decision.verdict ≡ true) = and_parts (is_in r.decision.first) (is_no_flow r.decision.verdict) moved in
         let began : begins e.incarnation e.item ≡ Flies r.decision.first = ap (λ i. begins i e.item) own_i ∙ ap (begins r.decider.incarnation) own_k ∙ r.whole.begins in
@@ -285,7 +302,8 @@ module _ (nat : Nat) (is_nat : IsNat nat) (base_at : ℕ → ℕ) (begins : ℕ 
         (ap (λ q. nat_verdict nat c (nat_arrival q e)) is_first ∙ given_verdict ∙ sym verdict, ap (λ q. nat_next nat c (nat_arrival q e)) is_first ∙ kept_next) in
         subst (λ (w : Visit NatArrival). Fits w.verdict (nat_verdict nat c w.arrival) × (nat_next nat c w.arrival ≡ c)) (sym r.visit) fit
 
-    quiet_visit : IsQuiet → (d : ℕ) (v : Visit NatArrival) → visit_by (nat_scene nat begins) es number e d ≡ Some v → Fits v.verdict (nat_verdict nat c v.arrival) × (nat_next nat c v.arrival ≡ c)
+    quiet_visit : IsQuiet → (d : ℕ) (v : Visit NatArrival) → visit_by (nat_scene nat begins) es number e d ≡ Some v
+        → Fits v.verdict (nat_verdict nat c v.arrival) × (nat_next nat c v.arrival ≡ c)
     quiet_visit quiet d v visits = go (is_in r.decision.first && is_no_flow r.decision.verdict) refl r.place
       where
         r : IsVisit (nat_scene nat begins) es (length before) e d v
@@ -294,20 +312,27 @@ module _ (nat : Nat) (is_nat : IsNat nat) (base_at : ℕ → ℕ) (begins : ℕ 
         own : (e.incarnation ≡ r.decider.incarnation) × (e.item ≡ r.decider.item)
         own = own_visit (nat_scene nat begins) es (length before) e d v (nat_own_places nat begins es) at_number r
 
-        go : (b : Bool) → (is_in r.decision.first && is_no_flow r.decision.verdict) ≡ b → cond b (first_with es d (slice_get es d)) d ≡ length before → Fits v.verdict (nat_verdict nat c v.arrival) × (nat_next nat c v.arrival ≡ c)
+        go : (b : Bool) → (is_in r.decision.first && is_no_flow r.decision.verdict) ≡ b
+            → cond b (first_with es d (slice_get es d)) d ≡ length before
+            → Fits v.verdict (nat_verdict nat c v.arrival) × (nat_next nat c v.arrival ≡ c)
         go false w place =
             let at : decision_at (nat_scene nat begins) es (length before) ≡ Some r.decision = ap (decision_at (nat_scene nat begins) es) (sym place) ∙ r.decided in
             let moved : (is_in r.decision.first && is_no_flow r.decision.verdict) ≡ true = quiet r.decision at in
             absurd (cc)
         go true w place = moved_visit d v r own.0 own.1 w place
 
-    quiet_step : IsQuiet → IsBoxed c (after (map_after empty before) e) → Agrees (nat_box nat) c (visits_of (nat_scene nat begins) es (length before) e) × Inv (before ++ e ∷ []) (content_through (nat_box nat) c (visits_of (nat_scene nat begins) es (length before) e))
+    quiet_step : IsQuiet → IsBoxed c (after (map_after empty before) e)
+        → Agrees (nat_box nat) c (visits_of (nat_scene nat begins) es (length before) e) × Inv (before ++ e ∷ [])
+        (content_through (nat_box nat) c (visits_of (nat_scene nat begins) es (length before) e))
     quiet_step quiet boxed =
         let all = agree_all (nat_box nat) c (visit_by (nat_scene nat begins) es (length before) e) 0 (length es) (quiet_visit quiet) in
         (all.0, subst (Inv (before ++ e ∷ [])) (sym all.1) (kept_but c boxed))
 
     -- a verdict that is decided here and has its place here
-    placed_step : (v : Verdict) → decides nat flight e.reply ≡ Some v → (is_in flight && is_no_flow v) ≡ false → BoxesBy nat c flight (after (map_after empty before) e) (choice_for flight e.request e.reply) v false → Agrees (nat_box nat) c (visits_of (nat_scene nat begins) es (length before) e) × Inv (before ++ e ∷ []) (content_through (nat_box nat) c (visits_of (nat_scene nat begins) es (length before) e))
+    placed_step : (v : Verdict) → decides nat flight e.reply ≡ Some v → (is_in flight && is_no_flow v) ≡ false
+        → BoxesBy nat c flight (after (map_after empty before) e) (choice_for flight e.request e.reply) v false
+        → Agrees (nat_box nat) c (visits_of (nat_scene nat begins) es (length before) e) × Inv (before ++ e ∷ [])
+        (content_through (nat_box nat) c (visits_of (nat_scene nat begins) es (length before) e))
     placed_step v decided stays boxes =
         let now : decision_at (nat_scene nat begins) es (length before) ≡ Some (record { first = first_of flight; verdict = v }) = here ∙ ap (decision_of (Flies (first_of flight))) decided in
         let visit : visit_by (nat_scene nat begins) es (length before) e (length before) ≡ Some (record { arrival = nat_arrival (first_of flight) e; verdict = Some v }) =
@@ -318,10 +343,14 @@ module _ (nat : Nat) (is_nat : IsNat nat) (base_at : ℕ → ℕ) (begins : ℕ 
         subst (λ (p : Packet). let a : NatArrival = record { packet = p; choice = put_on (flow_key p.proto p.source) e.request e.reply } in (nat_verdict nat c a ≡ v) × IsBoxed (nat_next nat c a) (after (map_after empty before) e)) (sym (packet_began flight)) boxes in
         rw one ((boxed.0, tt), kept_but (nat_next nat c (nat_arrival (first_of flight) e)) boxed.1)
 
-    step_here : Agrees (nat_box nat) c (visits_of (nat_scene nat begins) es (length before) e) × Inv (before ++ e ∷ []) (content_through (nat_box nat) c (visits_of (nat_scene nat begins) es (length before) e))
+    step_here : Agrees (nat_box nat) c (visits_of (nat_scene nat begins) es (length before) e) × Inv (before ++ e ∷ [])
+        (content_through (nat_box nat) c (visits_of (nat_scene nat begins) es (length before) e))
     step_here = go (decides nat flight e.reply) refl (outcome.boxes c kept.boxed)
       where
-        by : (v : Verdict) → decides nat flight e.reply ≡ Some v → (b : Bool) → (is_in flight && is_no_flow v) ≡ b → BoxesBy nat c flight (after (map_after empty before) e) (choice_for flight e.request e.reply) v b → Agrees (nat_box nat) c (visits_of (nat_scene nat begins) es (length before) e) × Inv (before ++ e ∷ []) (content_through (nat_box nat) c (visits_of (nat_scene nat begins) es (length before) e))
+        by : (v : Verdict) → decides nat flight e.reply ≡ Some v → (b : Bool) → (is_in flight && is_no_flow v) ≡ b
+            → BoxesBy nat c flight (after (map_after empty before) e) (choice_for flight e.request e.reply) v b
+            → Agrees (nat_box nat) c (visits_of (nat_scene nat begins) es (length before) e) × Inv (before ++ e ∷ [])
+            (content_through (nat_box nat) c (visits_of (nat_scene nat begins) es (length before) e))
         by v decided true moved boxed =
             quiet_step (λ x at.
             let now : decision_at (nat_scene nat begins) es (length before) ≡ Some (record { first = first_of flight; verdict = v }) = here ∙ ap (decision_of (Flies (first_of flight))) decided in
@@ -330,12 +359,17 @@ module _ (nat : Nat) (is_nat : IsNat nat) (base_at : ℕ → ℕ) (begins : ℕ 
             boxed
         by v decided false stays boxes = placed_step v decided stays boxes
 
-        go : (o : Option Verdict) → decides nat flight e.reply ≡ o → Boxes nat c flight (after (map_after empty before) e) (choice_for flight e.request e.reply) o → Agrees (nat_box nat) c (visits_of (nat_scene nat begins) es (length before) e) × Inv (before ++ e ∷ []) (content_through (nat_box nat) c (visits_of (nat_scene nat begins) es (length before) e))
+        go : (o : Option Verdict) → decides nat flight e.reply ≡ o
+            → Boxes nat c flight (after (map_after empty before) e) (choice_for flight e.request e.reply) o
+            → Agrees (nat_box nat) c (visits_of (nat_scene nat begins) es (length before) e) × Inv (before ++ e ∷ [])
+            (content_through (nat_box nat) c (visits_of (nat_scene nat begins) es (length before) e))
         go None undecided boxed =
             quiet_step (λ x at. let no : decision_at (nat_scene nat begins) es (length before) ≡ None = here ∙ ap (decision_of (Flies (first_of flight))) undecided in absurd (cc)) boxed
         go (Some v) decided boxes = by v decided (is_in flight && is_no_flow v) refl boxes
 
-  pub step : (before later : List Entry) (e : Entry) (c : List Flow) → es ≡ before ++ e ∷ later → Inv before c → Agrees (nat_box nat) c (visits_of (nat_scene nat begins) es (length before) e) × Inv (before ++ e ∷ []) (content_through (nat_box nat) c (visits_of (nat_scene nat begins) es (length before) e))
+  pub step : (before later : List Entry) (e : Entry) (c : List Flow) → es ≡ before ++ e ∷ later → Inv before c
+      → Agrees (nat_box nat) c (visits_of (nat_scene nat begins) es (length before) e) × Inv (before ++ e ∷ [])
+      (content_through (nat_box nat) c (visits_of (nat_scene nat begins) es (length before) e))
   step before later e c split kept =
       let next : (flight : NatFlight) × IsNextOf nat base_at begins before e flight = next_of nat is_nat base_at begins es given before later e split in
       step_here before later e c split kept next.0 next.1

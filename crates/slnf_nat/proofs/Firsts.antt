@@ -17,20 +17,25 @@ use Rattle.slnf_nat.proofs.Flying.{own_parts}
 use Rattle.slnf_run.specs.Looks.{first_of as first_own, first_of_own as first_with}
 
 -- the item's first entry is the item's
-pub first_own_is : (i k : ℕ) (es : List Entry) (p : Entry) → slice_get es (first_own i k es) ≡ Some p → is_of i k p ≡ true
+pub first_own_is : (i k : ℕ) (es : List Entry) (p : Entry) → slice_get es (first_own i k es) ≡ Some p
+    → is_of i k p ≡ true
 first_own_is i k [] p h = absurd (cc)
 first_own_is i k (e ∷ es) p h = go (is_of i k e) refl (first_own_is i k es p) h
   where
-    go : (b : Bool) → is_of i k e ≡ b → (slice_get es (first_own i k es) ≡ Some p → is_of i k p ≡ true) → slice_get (e ∷ es) (cond b 0 (suc (first_own i k es))) ≡ Some p → is_of i k p ≡ true
+    go : (b : Bool) → is_of i k e ≡ b → (slice_get es (first_own i k es) ≡ Some p → is_of i k p ≡ true)
+        → slice_get (e ∷ es) (cond b 0 (suc (first_own i k es))) ≡ Some p → is_of i k p ≡ true
     go true w later h = ap (is_of i k) (sym (same_Some e p h)) ∙ w
     go false w later h = later h
 
 -- what stands before the first entry of an item isn't the item's
-pub none_before : (i k : ℕ) (before later : List Entry) (e : Entry) → first_own i k (before ++ e ∷ later) ≡ length before → own_of i k before ≡ []
+pub none_before : (i k : ℕ) (before later : List Entry) (e : Entry)
+    → first_own i k (before ++ e ∷ later) ≡ length before → own_of i k before ≡ []
 none_before i k [] later e h = refl
 none_before i k (x ∷ before) later e h = go (is_of i k x) (none_before i k before later e) h
   where
-    go : (b : Bool) → (first_own i k (before ++ e ∷ later) ≡ length before → own_of i k before ≡ []) → cond b 0 (suc (first_own i k (before ++ e ∷ later))) ≡ suc (length before) → cond b (x ∷ own_of i k before) (own_of i k before) ≡ []
+    go : (b : Bool) → (first_own i k (before ++ e ∷ later) ≡ length before → own_of i k before ≡ [])
+        → cond b 0 (suc (first_own i k (before ++ e ∷ later))) ≡ suc (length before) → cond b (x ∷ own_of i k before)
+        (own_of i k before) ≡ []
     go true rest h = absurd (omega arith)
     go false rest h = rest (omega arith)
 
@@ -44,11 +49,13 @@ nat_steady nat (Out Last i packet) reply verdict h = absurd (cc)
 nat_steady nat (In state packet) reply verdict h = absurd (cc)
 nat_steady nat (Sweep state proto port base) reply verdict h = absurd (cc)
 
--- AllByRecursion of its packets has its place at an entry of its own.
-pub nat_own_places : (nat : Nat) (begins : ℕ → ℕ → Stand NatFlight) (es : List Entry) → HasOwnPlaces (nat_scene nat begins) es
+-- Each of its packets has its place at an entry of its own.
+pub nat_own_places : (nat : Nat) (begins : ℕ → ℕ → Stand NatFlight) (es : List Entry)
+    → HasOwnPlaces (nat_scene nat begins) es
 nat_own_places nat begins es number e place decision at decided there = go (is_in decision.first && is_no_flow decision.verdict) there
   where
-    go : (b : Bool) → slice_get es (cond b (first_with es number (slice_get es number)) number) ≡ Some place → (place.incarnation ≡ e.incarnation) × (place.item ≡ e.item)
+    go : (b : Bool) → slice_get es (cond b (first_with es number (slice_get es number)) number) ≡ Some place
+        → (place.incarnation ≡ e.incarnation) × (place.item ≡ e.item)
     go true h =
         let first : slice_get es (first_own e.incarnation e.item es) ≡ Some place = ap (λ o. slice_get es (first_with es number o)) (sym at) ∙ h in
         own_parts e.incarnation e.item place (first_own_is e.incarnation e.item es place first)
@@ -69,7 +76,8 @@ packet_began (In state packet) = refl
 packet_began (Sweep state proto port base) = refl
 
 -- a packet on its way in at its beginning
-pub in_first : (flight : NatFlight) → is_in flight ≡ true → flight ≡ first_of flight → (packet : Packet) × (flight ≡ In LookPort packet)
+pub in_first : (flight : NatFlight) → is_in flight ≡ true → flight ≡ first_of flight
+    → (packet : Packet) × (flight ≡ In LookPort packet)
 in_first (Out state i packet) h same = absurd (cc)
 in_first (In state packet) h same = (packet, same)
 in_first (Sweep state proto port base) h same = absurd (cc)

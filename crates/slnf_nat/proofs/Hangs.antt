@@ -1,4 +1,4 @@
--- AllByRecursion claim has its flow's record, or an item of its own incarnation that hasn't ended.
+-- Each claim has its flow's record, or an item of its own incarnation that hasn't ended.
 use Rattle.std.proofs.Common.{◌≡◌, ◌^◌, ◌⊎◌, inl, inr, ℕ, zero, suc, ◌<◌, ◌≤◌, Bool, true, false, Option, Some, None, List, [], ◌∷◌, ◌++◌, length, take, drop, refl, ap, sym, ◌∙◌, subst, arith}
 use Rattle.std.proofs.lemmas.Bool.{eq-eqb}
 use Rattle.std.proofs.lemmas.Option.{same_Some}
@@ -35,7 +35,9 @@ use Rattle.slnf_nat.proofs.LiveFlows.{kept_before}
 use Rattle.slnf_nat.proofs.Sweeping.{gone_or_there}
 
 -- what a put leaves was there, or is new, and then the reply is Done
-put_new : (key : ℕ) (value : Value) (stamp : ℕ) (cell : Option Held) (held : Held) → cell_after (PutIfAbsent (record { 0 = key }) value) stamp cell ≡ Some held → (cell ≡ Some held) ⊎ ((held.value ≡ value) × (held.version ≡ stamp) × (reply_to (PutIfAbsent (record { 0 = key }) value) stamp cell ≡ Done stamp))
+put_new : (key : ℕ) (value : Value) (stamp : ℕ) (cell : Option Held) (held : Held)
+    → cell_after (PutIfAbsent (record { 0 = key }) value) stamp cell ≡ Some held
+    → (cell ≡ Some held) ⊎ ((held.value ≡ value) × (held.version ≡ stamp) × (reply_to (PutIfAbsent (record { 0 = key }) value) stamp cell ≡ Done stamp))
 put_new key value stamp None held h = let same = same_Some _ held h in inr (ap (λ (c : Held). c.value) (sym same), ap (λ (c : Held). c.version) (sym same), refl)
 put_new key value stamp (Some there) held h = inl h
 
@@ -45,7 +47,12 @@ module _ (nat : Nat) (is_nat : IsNat nat) (base_at : ℕ → ℕ) (e : Entry) (c
   Left flight proto port cell held =
       (cell ≡ Some held) ⊎ ((g : Pair) × (claim_of held.value.0 ≡ Some (record { incarnation = e.incarnation; inside = g })) × Hangs nat proto port g held.version (nat_goes nat flight e.reply))
 
-  by_request : (flight : NatFlight) (proto : Proto) (port : Pair) (held : Held) → IsRanged nat base_at e.incarnation flight → IsPair port → e.reply ≡ reply_to (nat_asks nat flight) e.stamp (cells (key_of (nat_asks nat flight))) → port_key proto port ≡ key_of (nat_asks nat flight) → cell_after (nat_asks nat flight) e.stamp (cells (key_of (nat_asks nat flight))) ≡ Some held → Left flight proto port (cells (key_of (nat_asks nat flight))) held
+  by_request : (flight : NatFlight) (proto : Proto) (port : Pair) (held : Held)
+      → IsRanged nat base_at e.incarnation flight → IsPair port
+      → e.reply ≡ reply_to (nat_asks nat flight) e.stamp (cells (key_of (nat_asks nat flight)))
+      → port_key proto port ≡ key_of (nat_asks nat flight)
+      → cell_after (nat_asks nat flight) e.stamp (cells (key_of (nat_asks nat flight))) ≡ Some held
+      → Left flight proto port (cells (key_of (nat_asks nat flight))) held
   by_request (Out Look i packet) proto port held ranged fits replied key h = inl h
   by_request (Out (Try number) i packet) proto port held ranged fits replied key h =
       elim (put_new (port_key packet.proto (tried nat packet number)) (record { 0 = claim_number (record { incarnation = i; inside = packet.source }) }) e.stamp _ held h) [
@@ -67,10 +74,14 @@ module _ (nat : Nat) (is_nat : IsNat nat) (base_at : ℕ → ℕ) (e : Entry) (c
   by_request (Sweep (SweepFlow g version) q p b) proto port held ranged fits replied key h = inl h
   by_request (Sweep (Remove version) q p b) proto port held ranged fits replied key h = inl (gone_or_there (port_key q p) version e.stamp _ held h)
 
-  pub left_after : (flight : NatFlight) (proto : Proto) (port : Pair) (held : Held) → e.request ≡ nat_asks nat flight → e.reply ≡ reply_to e.request e.stamp (cells (key_of e.request)) → IsRanged nat base_at e.incarnation flight → IsPair port → after cells e (port_key proto port) ≡ Some held → Left flight proto port (cells (port_key proto port)) held
+  pub left_after : (flight : NatFlight) (proto : Proto) (port : Pair) (held : Held) → e.request ≡ nat_asks nat flight
+      → e.reply ≡ reply_to e.request e.stamp (cells (key_of e.request)) → IsRanged nat base_at e.incarnation flight
+      → IsPair port → after cells e (port_key proto port) ≡ Some held
+      → Left flight proto port (cells (port_key proto port)) held
   left_after flight proto port held asked replied ranged fits there = go (same_or_not (port_key proto port) (key_of e.request))
     where
-      go : (port_key proto port ≡ key_of e.request) ⊎ (port_key proto port ≡ key_of e.request → ⊥) → Left flight proto port (cells (port_key proto port)) held
+      go : (port_key proto port ≡ key_of e.request) ⊎ (port_key proto port ≡ key_of e.request → ⊥)
+          → Left flight proto port (cells (port_key proto port)) held
       go (inr apart) = inl (sym (other_cell cells e (port_key proto port) apart) ∙ there)
       go (inl own) =
           let key : port_key proto port ≡ key_of (nat_asks nat flight) = own ∙ ap key_of asked in
@@ -78,7 +89,11 @@ module _ (nat : Nat) (is_nat : IsNat nat) (base_at : ℕ → ℕ) (e : Entry) (c
           subst (λ cell. Left flight proto port cell held) (sym (ap cells key)) (by_request flight proto port held ranged fits (replied ∙ ap (λ r. reply_to r e.stamp (cells (key_of r))) asked) key left)
 
   -- An entry of the item that hangs: the claim gets its flow's record, or is gone, or the item hangs on.
-  own_step : (live : IsLive nat cells) (flight : NatFlight) (proto : Proto) (port inside : Pair) (held : Held) → e.request ≡ nat_asks nat flight → e.reply ≡ reply_to e.request e.stamp (cells (key_of e.request)) → IsRanged nat base_at e.incarnation flight → cells (port_key proto port) ≡ Some held → after cells e (port_key proto port) ≡ Some held → Hangs nat proto port inside held.version (Flies flight) → (flow_at (after cells e) proto inside ≡ Some port) ⊎ Hangs nat proto port inside held.version (nat_goes nat flight e.reply)
+  own_step : (live : IsLive nat cells) (flight : NatFlight) (proto : Proto) (port inside : Pair) (held : Held)
+      → e.request ≡ nat_asks nat flight → e.reply ≡ reply_to e.request e.stamp (cells (key_of e.request))
+      → IsRanged nat base_at e.incarnation flight → cells (port_key proto port) ≡ Some held
+      → after cells e (port_key proto port) ≡ Some held → Hangs nat proto port inside held.version (Flies flight)
+      → (flow_at (after cells e) proto inside ≡ Some port) ⊎ Hangs nat proto port inside held.version (nat_goes nat flight e.reply)
   own_step live (Out Look i packet) proto port inside held asked replied ranged was there h = absurd h
   own_step live (Out (Try number) i packet) proto port inside held asked replied ranged was there h = absurd h
   own_step live (Out (Confirm number version) i packet) proto port inside held asked replied ranged was there h = go (cells (flow_key packet.proto packet.source)) refl
@@ -86,13 +101,16 @@ module _ (nat : Nat) (is_nat : IsNat nat) (base_at : ℕ → ℕ) (e : Entry) (c
       record_of : FlowTo
       record_of = record { outside = tried nat packet number }
 
-      by : (o : Option FlowTo) (found : Held) → cells (flow_key packet.proto packet.source) ≡ Some found → flow_to_of found.value.0 ≡ o → Hangs nat proto port inside held.version (stand_of_step (released i packet number version o))
+      by : (o : Option FlowTo) (found : Held) → cells (flow_key packet.proto packet.source) ≡ Some found
+          → flow_to_of found.value.0 ≡ o
+          → Hangs nat proto port inside held.version (stand_of_step (released i packet number version o))
       by None found at w =
           let none : cells (flow_key packet.proto packet.source) ≡ None = live.whole packet.proto packet.source ranged.2 (ap flow_in at ∙ ap outside_of w) in
           absurd (cc)
       by (Some to) found at w = h
 
-      go : (cell : Option Held) → cells (flow_key packet.proto packet.source) ≡ cell → (flow_at (after cells e) proto inside ≡ Some port) ⊎ Hangs nat proto port inside held.version (nat_goes nat (Out (Confirm number version) i packet) e.reply)
+      go : (cell : Option Held) → cells (flow_key packet.proto packet.source) ≡ cell
+          → (flow_at (after cells e) proto inside ≡ Some port) ⊎ Hangs nat proto port inside held.version (nat_goes nat (Out (Confirm number version) i packet) e.reply)
       go None none =
           let put = put_done cells e _ _ asked none in
           let here : flow_at (after cells e) packet.proto packet.source ≡ Some (tried nat packet number) =
@@ -119,7 +137,8 @@ module _ (nat : Nat) (is_nat : IsNat nat) (base_at : ℕ → ℕ) (begins : ℕ 
   abbrev pub AllAccounted : List Entry → Type 0
   AllAccounted before = Accounts before (map_after empty before) before
 
-  step : (before later : List Entry) (e : Entry) → es ≡ before ++ e ∷ later → AllAccounted before → AllAccounted (before ++ e ∷ [])
+  step : (before later : List Entry) (e : Entry) → es ≡ before ++ e ∷ later → AllAccounted before
+      → AllAccounted (before ++ e ∷ [])
   step before later e split all = subst (λ m. Accounts before m (before ++ e ∷ [])) (sym push) next_all
     where
       cells : Cells
@@ -134,7 +153,8 @@ module _ (nat : Nat) (is_nat : IsNat nat) (base_at : ℕ → ℕ) (begins : ℕ 
       stands_now : stand_of (nat_scene nat begins) e.incarnation e.item (before ++ e ∷ []) ≡ nat_goes nat next.0 e.reply
       stands_now = next_stands nat is_nat base_at begins es given before e next.0 next.1
 
-      flows : (q : Proto) (inside to : Pair) → IsPair inside → flow_at cells q inside ≡ Some to → flow_at (after cells e) q inside ≡ Some to
+      flows : (q : Proto) (inside to : Pair) → IsPair inside → flow_at cells q inside ≡ Some to
+          → flow_at (after cells e) q inside ≡ Some to
       flows q inside to fits there =
           let r = flow_there (cells (flow_key q inside)) to there in
           let stay : map_after empty (before ++ e ∷ []) (flow_key q inside) ≡ Some r.0 = flow_stays nat is_nat base_at begins es given before (e ∷ []) later split q inside r.0 fits r.1 in
@@ -146,7 +166,9 @@ module _ (nat : Nat) (is_nat : IsNat nat) (base_at : ℕ → ℕ) (begins : ℕ 
           Now : Type 0
           Now = (flow_at (after cells e) proto claim.inside ≡ Some port) ⊎ ((k : ℕ) × Hangs nat proto port claim.inside held.version (stand_of (nat_scene nat begins) claim.incarnation k (before ++ e ∷ [])))
 
-          hanging : cells (port_key proto port) ≡ Some held → (k : ℕ) → Hangs nat proto port claim.inside held.version (stand_of (nat_scene nat begins) claim.incarnation k before) → Now
+          hanging : cells (port_key proto port) ≡ Some held → (k : ℕ)
+              → Hangs nat proto port claim.inside held.version (stand_of (nat_scene nat begins) claim.incarnation k before)
+              → Now
           hanging was k h = by (is_of claim.incarnation k e) refl
             where
               own : e.incarnation ≡ claim.incarnation → e.item ≡ k → Now

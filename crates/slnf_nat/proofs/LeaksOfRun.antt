@@ -4,8 +4,7 @@ use Rattle.std.specs.List.{range_with_len, AllByRecursion}
 use Rattle.std.proofs.lemmas.Bool.{eqb-true, ltb-false, ltb-true}
 use Rattle.std.proofs.lemmas.Option.{same_Some}
 use Rattle.slnf_access.specs.declared.requests.Entry.{Entry}
-use Rattle.slnf_access.specs.Map.{key_of, empty, map_after}
-use Rattle.slnf_access.specs.Order.{InOrder, IsInShard}
+use Rattle.slnf_access.specs.Map.{empty, map_after}
 use Rattle.slnf_access.specs.Machines.{Machine, Stand, Flies, Ends, IsPath, HasEnded, stand_after}
 use Rattle.slnf_run.specs.Run.{AllEnded, IsRun}
 use Rattle.slnf_run.specs.Scene.{Scene, is_of, own_of, stand_of}
@@ -27,7 +26,9 @@ use Rattle.slnf_access.proofs.Elements.{each-splits, each-weaker}
 use Rattle.slnf_access.proofs.Orders.{rises_in_order}
 
 -- each item of a range is offered, and so has ended where all offers have
-ended_in_range : {F A : Type 0} (s : Setting F A) (i : ℕ) (es : List Entry) (limit : ℕ) (first : ℕ → Option ℕ) (number size : ℕ) (keys : List ℕ) (a n k : ℕ) → a ≤ k → k < a + n → AllEnded s i es (batched limit first number size keys (range_with_len a n)) → HasEnded (stand_of s.scene i k es)
+ended_in_range : {F A : Type 0} (s : Setting F A) (i : ℕ) (es : List Entry) (limit : ℕ) (first : ℕ → Option ℕ)
+    (number size : ℕ) (keys : List ℕ) (a n k : ℕ) → a ≤ k → k < a + n
+    → AllEnded s i es (batched limit first number size keys (range_with_len a n)) → HasEnded (stand_of s.scene i k es)
 ended_in_range s i es limit first number size keys a zero k low high all = absurd (omega arith)
 ended_in_range s i es limit first number size keys a (suc n) k low high all =
     go (λ number size keys less rest. ended_in_range s i es limit first number size keys (a + 1) n k less (omega arith) rest) (nat_lt size limit && not (is_among (first a) keys)) all
@@ -35,19 +36,24 @@ ended_in_range s i es limit first number size keys a (suc n) k low high all =
     Again : Type 0
     Again = (number size : ℕ) (keys : List ℕ) → a + 1 ≤ k → AllEnded s i es (batched limit first number size keys (range_with_len (a + 1) n)) → HasEnded (stand_of s.scene i k es)
 
-    one : Again → (number size : ℕ) (keys : List ℕ) → HasEnded (stand_of s.scene i a es) → AllEnded s i es (batched limit first number size keys (range_with_len (a + 1) n)) → HasEnded (stand_of s.scene i k es)
+    one : Again → (number size : ℕ) (keys : List ℕ) → HasEnded (stand_of s.scene i a es)
+        → AllEnded s i es (batched limit first number size keys (range_with_len (a + 1) n))
+        → HasEnded (stand_of s.scene i k es)
     one again number size keys here rest = by (nat_lt a k) refl
       where
         by : (b : Bool) → nat_lt a k ≡ b → HasEnded (stand_of s.scene i k es)
         by true w = let less : a < k = ltb-true a k w in again number size keys (omega arith) rest
         by false w = let more : k ≤ a = ltb-false a k w in let same : a ≡ k = omega arith in subst (λ m. HasEnded (stand_of s.scene i m es)) same here
 
-    go : Again → (b : Bool) → AllEnded s i es (cond b (record { item = a; batch = number } ∷ batched limit first number (size + 1) (with_key (first a) keys) (range_with_len (a + 1) n)) (record { item = a; batch = number + 1 } ∷ batched limit first (number + 1) 1 (with_key (first a) []) (range_with_len (a + 1) n))) → HasEnded (stand_of s.scene i k es)
+    go : Again → (b : Bool)
+        → AllEnded s i es (cond b (record { item = a; batch = number } ∷ batched limit first number (size + 1) (with_key (first a) keys) (range_with_len (a + 1) n)) (record { item = a; batch = number + 1 } ∷ batched limit first (number + 1) 1 (with_key (first a) []) (range_with_len (a + 1) n)))
+        → HasEnded (stand_of s.scene i k es)
     go again true h = one again number (size + 1) (with_key (first a) keys) h.0 h.1
     go again false h = one again (number + 1) 1 (with_key (first a) []) h.0 h.1
 
 -- what a sweep is offered
-offers_of-sweep : {F A : Type 0} (s : Setting F A) (i at : ℕ) (actor : Actor) → actor.lane ≡ None → offers_of s i at actor ≡ batched 1 (λ item. first_key_of (s.scene.machine i) (s.scene.begins i item)) 0 0 [] (range_with_len 0 s.sweep_items)
+offers_of-sweep : {F A : Type 0} (s : Setting F A) (i at : ℕ) (actor : Actor) → actor.lane ≡ None
+    → offers_of s i at actor ≡ batched 1 (λ item. first_key_of (s.scene.machine i) (s.scene.begins i item)) 0 0 [] (range_with_len 0 s.sweep_items)
 offers_of-sweep s i at actor h = ap (λ on. offers_of s i at (record { lane = on; quota = actor.quota; stop = actor.stop })) h
 
 -- entries of other incarnations are none of an item's own
@@ -55,17 +61,21 @@ pub none_of : (i k : ℕ) (es : List Entry) → AllByRecursion (λ f. f.incarnat
 none_of i k [] h = refl
 none_of i k (e ∷ es) h = go (e.incarnation == i) refl (none_of i k es h.1)
   where
-    go : (b : Bool) → (e.incarnation == i) ≡ b → own_of i k es ≡ [] → cond (is_of i k e) (e ∷ own_of i k es) (own_of i k es) ≡ []
+    go : (b : Bool) → (e.incarnation == i) ≡ b → own_of i k es ≡ [] → cond (is_of i k e) (e ∷ own_of i k es)
+        (own_of i k es) ≡ []
     go true w none = absurd (h.0 (eqb-true e.incarnation i w))
     go false w none = ap (λ b. cond (b && (e.item == k)) (e ∷ own_of i k es) (own_of i k es)) w ∙ none
 
 -- In a list that is in order of epochs, those up to one are a front.
-pub through : (era : ℕ → ℕ) (number : ℕ) (es : List Entry) → ((before middle later : List Entry) (e f : Entry) → es ≡ before ++ e ∷ (middle ++ f ∷ later) → era e.incarnation ≤ era f.incarnation) → (t : ℕ) × IsThrough era number es t
+pub through : (era : ℕ → ℕ) (number : ℕ) (es : List Entry)
+    → ((before middle later : List Entry) (e f : Entry) → es ≡ before ++ e ∷ (middle ++ f ∷ later) → era e.incarnation ≤ era f.incarnation)
+    → (t : ℕ) × IsThrough era number es t
 through era number [] order = (0, record { size = omega arith; front = tt; back = tt })
 through era number (e ∷ es) order =
     go (nat_lt number (era e.incarnation)) refl (through era number es (λ before middle later f g split. order (e ∷ before) middle later f g (ap (λ l. e ∷ l) split)))
   where
-    go : (b : Bool) → nat_lt number (era e.incarnation) ≡ b → (t : ℕ) × IsThrough era number es t → (t : ℕ) × IsThrough era number (e ∷ es) t
+    go : (b : Bool) → nat_lt number (era e.incarnation) ≡ b → (t : ℕ) × IsThrough era number es t
+        → (t : ℕ) × IsThrough era number (e ∷ es) t
     go true w r =
         let more : number < era e.incarnation = ltb-true number (era e.incarnation) w in (
           0,
@@ -86,7 +96,8 @@ through era number (e ∷ es) order =
         (suc r.0, record { size = omega arith; front = (le, r.1.front); back = r.1.back })
 
 -- an incarnation at or above an epoch's base, and of no later epoch, is one of the epoch's actors
-pub below_next : (eras : List Era) (number j : ℕ) (era : Era) → slice_get eras number ≡ Some era → base_of eras number ≤ j → era_of eras j ≤ number → j < base_of eras number + length era.actors
+pub below_next : (eras : List Era) (number j : ℕ) (era : Era) → slice_get eras number ≡ Some era
+    → base_of eras number ≤ j → era_of eras j ≤ number → j < base_of eras number + length era.actors
 below_next [] number j era there low high = absurd (nothing number there)
   where
     nothing : (n : ℕ) → slice_get [] n ≡ Some era → ⊥
@@ -97,7 +108,8 @@ below_next (own ∷ eras) zero j era there low high = go (nat_lt j (length own.a
     same : own ≡ era
     same = same_Some own era there
 
-    go : (b : Bool) → nat_lt j (length own.actors) ≡ b → cond b 0 (era_of eras (j - length own.actors) + 1) ≤ 0 → j < 0 + length era.actors
+    go : (b : Bool) → nat_lt j (length own.actors) ≡ b → cond b 0 (era_of eras (j - length own.actors) + 1) ≤ 0
+        → j < 0 + length era.actors
     go true w h = let less : j < length own.actors = ltb-true j (length own.actors) w in let size : length own.actors ≡ length era.actors = ap (λ (x : Era). length x.actors) same in omega arith
     go false w h = absurd (omega arith)
 below_next (own ∷ eras) (suc number) j era there low high = go (λ a b. below_next eras number (j - length own.actors) era there a b) (nat_lt j (length own.actors)) refl high
@@ -105,7 +117,9 @@ below_next (own ∷ eras) (suc number) j era there low high = go (λ a b. below_
     Again : Type 0
     Again = base_of eras number ≤ j - length own.actors → era_of eras (j - length own.actors) ≤ number → j - length own.actors < base_of eras number + length era.actors
 
-    go : Again → (b : Bool) → nat_lt j (length own.actors) ≡ b → cond b 0 (era_of eras (j - length own.actors) + 1) ≤ suc number → j < (length own.actors + base_of eras number) + length era.actors
+    go : Again → (b : Bool) → nat_lt j (length own.actors) ≡ b
+        → cond b 0 (era_of eras (j - length own.actors) + 1) ≤ suc number
+        → j < (length own.actors + base_of eras number) + length era.actors
     go again true w h = let less : j < length own.actors = ltb-true j (length own.actors) w in omega arith
     go again false w h =
         let more : length own.actors ≤ j = ltb-false j (length own.actors) w in
@@ -115,14 +129,19 @@ below_next (own ∷ eras) (suc number) j era there low high = go (λ a b. below_
         omega arith
 
 -- where an item of the image has ended, the function's has
-pub ended_as : {F G : Type 0} (into : F → G) (m : Machine F) (n : Machine G) → IsImage into m n → (st : Stand F) (es : List Entry) → HasEnded (stand_after n (stand_as into st) es) → HasEnded (stand_after m st es)
+pub ended_as : {F G : Type 0} (into : F → G) (m : Machine F) (n : Machine G) → IsImage into m n → (st : Stand F)
+    (es : List Entry) → HasEnded (stand_after n (stand_as into st) es) → HasEnded (stand_after m st es)
 ended_as into m n image (Flies f) [] h = h
 ended_as into m n image (Ends o) [] h = h
 ended_as into m n image (Flies f) (e ∷ es) h = ended_as into m n image (m.goes f e.reply) es (subst (λ st. HasEnded (stand_after n st es)) (image.goes f e.reply) h)
 ended_as into m n image (Ends o) (e ∷ es) h = ended_as into m n image (Ends o) es h
 
 -- A run of a setting whose scene has the NAT's as a case is a list of the NAT's paths.
-pub nat_list_of_image : {G : Type 0} (s : Setting G NatArrival) (into : NatFlight → G) (nat : Nat) (begins : ℕ → ℕ → Stand NatFlight) (es : List Entry) → IsSceneImage into (nat_scene nat begins) s.scene → ((i k : ℕ) (flight : NatFlight) → begins i k ≡ Flies flight → first_of flight ≡ flight) → ((i k : ℕ) (flight : NatFlight) → begins i k ≡ Flies flight → IsRanged nat (own_base s.eras) i flight) → IsRun s es → IsNatList nat (own_base s.eras) begins es
+pub nat_list_of_image : {G : Type 0} (s : Setting G NatArrival) (into : NatFlight → G) (nat : Nat)
+    (begins : ℕ → ℕ → Stand NatFlight) (es : List Entry) → IsSceneImage into (nat_scene nat begins) s.scene
+    → ((i k : ℕ) (flight : NatFlight) → begins i k ≡ Flies flight → first_of flight ≡ flight)
+    → ((i k : ℕ) (flight : NatFlight) → begins i k ≡ Flies flight → IsRanged nat (own_base s.eras) i flight)
+    → IsRun s es → IsNatList nat (own_base s.eras) begins es
 nat_list_of_image s into nat begins es image firsts ranges run = record {
   legal = run.legal;
   paths = λ i k.
@@ -137,7 +156,8 @@ nat_list_of_image s into nat begins es image firsts ranges run = record {
   rising = rises_in_order s.shards es run.in_order run.in_shards;
 }
   where
-    whole : (before later : List Entry) (e : Entry) (xs ys : List Entry) (f : Entry) → es ≡ before ++ e ∷ later → before ≡ xs ++ f ∷ ys → es ≡ xs ++ f ∷ (ys ++ e ∷ later)
+    whole : (before later : List Entry) (e : Entry) (xs ys : List Entry) (f : Entry) → es ≡ before ++ e ∷ later
+        → before ≡ xs ++ f ∷ ys → es ≡ xs ++ f ∷ (ys ++ e ∷ later)
     whole before later e xs ys f split h = split ∙ ap (λ l. l ++ e ∷ later) h ∙ append_assoc xs (f ∷ ys) (e ∷ later)
 
 -- the NAT's own scene is a case of itself

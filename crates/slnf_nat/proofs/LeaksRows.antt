@@ -28,7 +28,7 @@ use Rattle.slnf_run.proofs.Runs.{own_in_part}
 use Rattle.std.proofs.Common.{inl, inr}
 use Rattle.slnf_nat.specs.NatBox.{NatArrival}
 use Rattle.slnf_nat.proofs.LeaksOfRun.{own_image}
-use Rattle.slnf_nat.proofs.Leakless.{nothing_leaks}
+use Rattle.slnf_nat.proofs.NothingLeaks.{nothing_leaks}
 use Rattle.std.proofs.Common.{slice_get}
 use Rattle.std.proofs.lemmas.Option.{same_Some}
 use Rattle.slnf_nat.proofs.Boxing.{same_pair}
@@ -110,7 +110,8 @@ unfolding flow_key_number port_key_number single_number key_number pair_number f
 legal = (refl, (refl, (refl, (refl, (refl, (refl, (refl, (refl, (refl, (refl, tt))))))))))
 
 -- the claim over UDP was there, and is gone, and the flow over TCP is live
-udp_there : map_after empty (e0 ∷ e1 ∷ e2 ∷ e3 ∷ e4 ∷ []) (port_key Udp outer) ≡ Some (record { value = record { 0 = the_claim }; version = 5 })
+udp_there : map_after empty (e0 ∷ e1 ∷ e2 ∷ e3 ∷ e4 ∷ [])
+    (port_key Udp outer) ≡ Some (record { value = record { 0 = the_claim }; version = 5 })
 unfolding flow_key_number port_key_number single_number key_number pair_number flow_to_number claim_number claim_of pair_at pair_of flow_to_of
 udp_there = refl
 
@@ -181,7 +182,8 @@ bases_at : (n : ℕ) (xs ys : List Entry) (e : Entry) → Bases n (xs ++ e ∷ y
 bases_at n [] ys e h = h.0
 bases_at n (x ∷ xs) ys e h = let a : n ≤ base_at x.incarnation = h.0 in let b : base_at x.incarnation ≤ base_at e.incarnation = bases_at (base_at x.incarnation) xs ys e h.1 in omega arith
 
-bases_each : (n : ℕ) (xs ys : List Entry) (e : Entry) → Bases n (xs ++ e ∷ ys) → AllByRecursion (λ f. base_at f.incarnation ≤ base_at e.incarnation) xs
+bases_each : (n : ℕ) (xs ys : List Entry) (e : Entry) → Bases n (xs ++ e ∷ ys)
+    → AllByRecursion (λ f. base_at f.incarnation ≤ base_at e.incarnation) xs
 bases_each n [] ys e h = tt
 bases_each n (x ∷ xs) ys e h = (bases_at (base_at x.incarnation) xs ys e h.1, bases_each (base_at x.incarnation) xs ys e h.1)
 
@@ -249,7 +251,8 @@ only_sweep (suc (suc i)) h = absurd (nothing i h.post h.posted)
     nothing zero post q = cc
     nothing (suc n) post q = cc
 
-setting_ranges : (i k : ℕ) (flight : NatFlight) → begins i k ≡ Flies flight → IsRanged nat (own_base setting.eras) i flight
+setting_ranges : (i k : ℕ) (flight : NatFlight) → begins i k ≡ Flies flight
+    → IsRanged nat (own_base setting.eras) i flight
 setting_ranges zero zero flight h = subst (IsRanged nat (own_base setting.eras) 0) (same_flight _ flight h) (refl, omega arith, pair_fits, refl)
 setting_ranges zero (suc zero) flight h = subst (IsRanged nat (own_base setting.eras) 0) (same_flight _ flight h) (refl, omega arith, pair_fits, refl)
 setting_ranges zero (suc (suc k)) flight h = absurd (cc)
@@ -291,7 +294,8 @@ abbrev second_post : Post
 second_post = record { actor = the_sweep; era = 1; at = 0 }
 
 -- what the two posts have, each post has
-each_post : (P : ℕ → Post → Type 0) → P 0 first_post → P 1 second_post → (i : ℕ) (post : Post) → slice_get (posts_of setting es) i ≡ Some post → P i post
+each_post : (P : ℕ → Post → Type 0) → P 0 first_post → P 1 second_post → (i : ℕ) (post : Post)
+    → slice_get (posts_of setting es) i ≡ Some post → P i post
 each_post P a b zero post h = subst (P 0) (same_Some first_post post h) a
 each_post P a b (suc zero) post h = subst (P 1) (same_Some second_post post h) b
 each_post P a b (suc (suc i)) post h = absurd (nothing i post h)
@@ -309,7 +313,8 @@ append_none : (xs : List Entry) → xs ++ [] ≡ xs
 append_none [] = refl
 append_none (x ∷ xs) = ap (λ l. x ∷ l) (append_none xs)
 
-splits_at : (P : List Entry → Entry → Type 0) (done before later : List Entry) (e : Entry) → Splits P done (before ++ e ∷ later) → P (done ++ before) e
+splits_at : (P : List Entry → Entry → Type 0) (done before later : List Entry) (e : Entry)
+    → Splits P done (before ++ e ∷ later) → P (done ++ before) e
 splits_at P done [] later e h = subst (λ l. P l e) (sym (append_none done)) h.0
 splits_at P done (x ∷ before) later e h = subst (λ l. P l e) (append_assoc done (x ∷ []) before) (splits_at P (done ++ x ∷ []) before later e h.1)
 
@@ -332,7 +337,8 @@ epochs_at n (x ∷ xs) ys e h =
     let b : era_of setting.eras x.incarnation ≤ era_of setting.eras e.incarnation = epochs_at (era_of setting.eras x.incarnation) xs ys e h.1 in
     omega (arith, a, b)
 
-epochs_two : (n : ℕ) (xs ys zs : List Entry) (e f : Entry) → Epochs n (xs ++ e ∷ (ys ++ f ∷ zs)) → era_of setting.eras e.incarnation ≤ era_of setting.eras f.incarnation
+epochs_two : (n : ℕ) (xs ys zs : List Entry) (e f : Entry) → Epochs n (xs ++ e ∷ (ys ++ f ∷ zs))
+    → era_of setting.eras e.incarnation ≤ era_of setting.eras f.incarnation
 epochs_two n [] ys zs e f h = epochs_at (era_of setting.eras e.incarnation) ys zs f h.1
 epochs_two n (x ∷ xs) ys zs e f h = epochs_two (era_of setting.eras x.incarnation) xs ys zs e f h.1
 

@@ -29,7 +29,8 @@ use Rattle.slnf_nat.proofs.Nexts.{IsNextOf, next_of, flow_stays}
 use Rattle.slnf_nat.proofs.Explained.{Inv, nat_keeps, flow_there}
 
 -- two live flows of one protocol with one outside pair are one
-pub live_distinct : (nat : Nat) (cells : Cells) (proto : Proto) (a b port : Pair) → IsLive nat cells → IsPair a → IsPair b → flow_at cells proto a ≡ Some port → flow_at cells proto b ≡ Some port → a ≡ b
+pub live_distinct : (nat : Nat) (cells : Cells) (proto : Proto) (a b port : Pair) → IsLive nat cells → IsPair a
+    → IsPair b → flow_at cells proto a ≡ Some port → flow_at cells proto b ≡ Some port → a ≡ b
 live_distinct nat cells proto a b port live fits_a fits_b one two =
     let r = live.claims proto a port fits_a one in
     let q = live.claims proto b port fits_b two in
@@ -39,7 +40,8 @@ live_distinct nat cells proto a b port live fits_a fits_b one two =
 
 module _ (nat : Nat) (is_nat : IsNat nat) (base_at : ℕ → ℕ) (begins : ℕ → ℕ → Stand NatFlight) (es : List Entry) (given : IsNatList nat base_at begins es) where
   -- the invariant before each entry
-  pub kept_before : (before later : List Entry) (e : Entry) → es ≡ before ++ e ∷ later → Inv nat is_nat base_at begins es given before (content_after (nat_scene nat begins) (nat_box nat) es (length before))
+  pub kept_before : (before later : List Entry) (e : Entry) → es ≡ before ++ e ∷ later
+      → Inv nat is_nat base_at begins es given before (content_after (nat_scene nat begins) (nat_box nat) es (length before))
   kept_before before later e split =
       let size : length before ≤ length es = rw split (simp length-append (omega arith)) in
       let front : take (length before) es ≡ before = ap (take (length before)) split ∙ take-append_seam before (e ∷ later) in

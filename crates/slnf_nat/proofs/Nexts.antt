@@ -37,7 +37,8 @@ ended_stays nat end [] = refl
 ended_stays nat end (e ∷ es) = ended_stays nat end es
 
 -- how a flight began
-began_all : (nat : Nat) (first : NatFlight) (st : Stand NatFlight) (es : List Entry) → BeganSo first st → BeganSo first (stand_after (nat_machine nat) st es)
+began_all : (nat : Nat) (first : NatFlight) (st : Stand NatFlight) (es : List Entry) → BeganSo first st
+    → BeganSo first (stand_after (nat_machine nat) st es)
 began_all nat first st [] h = h
 began_all nat first (Ends end) (e ∷ es) h = began_all nat first (Ends end) es h
 began_all nat first (Flies flight) (e ∷ es) h =
@@ -45,13 +46,15 @@ began_all nat first (Flies flight) (e ∷ es) h =
 
 module _ (nat : Nat) (is_nat : IsNat nat) (base_at : ℕ → ℕ) (begins : ℕ → ℕ → Stand NatFlight) (es : List Entry) (given : IsNatList nat base_at begins es) where
   -- an item's entries where the list is split at one of them
-  own_split : (before later : List Entry) (e : Entry) → es ≡ before ++ e ∷ later → own_of e.incarnation e.item es ≡ own_of e.incarnation e.item before ++ e ∷ own_of e.incarnation e.item later
+  own_split : (before later : List Entry) (e : Entry) → es ≡ before ++ e ∷ later
+      → own_of e.incarnation e.item es ≡ own_of e.incarnation e.item before ++ e ∷ own_of e.incarnation e.item later
   own_split before later e split =
       ap (own_of e.incarnation e.item) split
       ∙ filter-append (is_of e.incarnation e.item) before (e ∷ later)
       ∙ ap (λ b. own_of e.incarnation e.item before ++ cond b (e ∷ own_of e.incarnation e.item later) (own_of e.incarnation e.item later)) (is_of-itself e)
 
-  pub next_of : (before later : List Entry) (e : Entry) → es ≡ before ++ e ∷ later → (flight : NatFlight) × IsNextOf nat base_at begins before e flight
+  pub next_of : (before later : List Entry) (e : Entry) → es ≡ before ++ e ∷ later
+      → (flight : NatFlight) × IsNextOf nat base_at begins before e flight
   next_of before later e split = go (begins i k) refl (stand_of (nat_scene nat begins) i k before) refl asked
     where
       i : ℕ
@@ -66,7 +69,9 @@ module _ (nat : Nat) (is_nat : IsNat nat) (base_at : ℕ → ℕ) (begins : ℕ 
       replied : e.reply ≡ reply_to e.request e.stamp (map_after empty before (key_of e.request))
       replied = (legal-back empty before (e ∷ later) (subst IsLegal split given.legal)).0
 
-      go : (first : Stand NatFlight) → begins e.incarnation e.item ≡ first → (st : Stand NatFlight) → stand_of (nat_scene nat begins) e.incarnation e.item before ≡ st → IsAsked (nat_machine nat) st e → (flight : NatFlight) × IsNextOf nat base_at begins before e flight
+      go : (first : Stand NatFlight) → begins e.incarnation e.item ≡ first → (st : Stand NatFlight)
+          → stand_of (nat_scene nat begins) e.incarnation e.item before ≡ st → IsAsked (nat_machine nat) st e
+          → (flight : NatFlight) × IsNextOf nat base_at begins before e flight
       go first b (Ends end) w asked = absurd asked
       go (Ends end) b (Flies flight) w asked =
           let ended : stand_of (nat_scene nat begins) e.incarnation e.item before ≡ Ends end = ap (λ st. stand_after (nat_machine nat) st (own_of e.incarnation e.item before)) b ∙ ended_stays nat end (own_of e.incarnation e.item before) in
@@ -88,18 +93,24 @@ module _ (nat : Nat) (is_nat : IsNat nat) (base_at : ℕ → ℕ) (begins : ℕ 
           )
 
   -- where the item stands after the entry
-  pub next_stands : (before : List Entry) (e : Entry) (flight : NatFlight) → IsNextOf nat base_at begins before e flight → stand_of (nat_scene nat begins) e.incarnation e.item (before ++ e ∷ []) ≡ nat_goes nat flight e.reply
+  pub next_stands : (before : List Entry) (e : Entry) (flight : NatFlight)
+      → IsNextOf nat base_at begins before e flight
+      → stand_of (nat_scene nat begins) e.incarnation e.item (before ++ e ∷ []) ≡ nat_goes nat flight e.reply
   next_stands before e flight next =
       stand_of-own (nat_scene nat begins) before e ∙ ap (λ st. stand_step (nat_machine nat) st e) next.stands
 
   -- and every other item stands where it stood
-  pub others_stand : (before : List Entry) (e : Entry) (i k : ℕ) → is_of i k e ≡ false → stand_of (nat_scene nat begins) i k (before ++ e ∷ []) ≡ stand_of (nat_scene nat begins) i k before
+  pub others_stand : (before : List Entry) (e : Entry) (i k : ℕ) → is_of i k e ≡ false
+      → stand_of (nat_scene nat begins) i k (before ++ e ∷ []) ≡ stand_of (nat_scene nat begins) i k before
   others_stand before e i k other =
       stand_of-append (nat_scene nat begins) i k before (e ∷ [])
       ∙ ap (λ b. stand_after (nat_machine nat) (stand_of (nat_scene nat begins) i k before) (cond b (e ∷ []) [])) other
 
   -- what is decided at the entry
-  pub decided_here : (before later : List Entry) (e : Entry) (flight : NatFlight) → es ≡ before ++ e ∷ later → IsNextOf nat base_at begins before e flight → decision_at (nat_scene nat begins) es (length before) ≡ decision_of (Flies (first_of flight)) (decides nat flight e.reply)
+  pub decided_here : (before later : List Entry) (e : Entry) (flight : NatFlight) → es ≡ before ++ e ∷ later
+      → IsNextOf nat base_at begins before e flight
+      → decision_at (nat_scene nat begins) es (length before) ≡ decision_of (Flies (first_of flight))
+      (decides nat flight e.reply)
   decided_here before later e flight split next =
       let at : slice_get es (length before) ≡ Some e = ap (λ xs. slice_get xs (length before)) split ∙ slice_get-split before later e in
       let front : take (length before) es ≡ before = ap (take (length before)) split ∙ take-append_seam before (e ∷ later) in
@@ -110,14 +121,18 @@ module _ (nat : Nat) (is_nat : IsNat nat) (base_at : ℕ → ℕ) (begins : ℕ 
   both false o = refl
 
   -- A removal is on a port's key, and all else leaves what is there: so a flow's record stays.
-  leaves : (proto : Proto) (inside : Pair) (held : Held) (stamp : ℕ) (i : ℕ) (flight : NatFlight) → IsPair inside → IsRanged nat base_at i flight → cond (key_of (nat_asks nat flight) == flow_key proto inside) (cell_after (nat_asks nat flight) stamp (Some held)) (Some held) ≡ Some held
+  leaves : (proto : Proto) (inside : Pair) (held : Held) (stamp : ℕ) (i : ℕ) (flight : NatFlight) → IsPair inside
+      → IsRanged nat base_at i flight → cond (key_of (nat_asks nat flight) == flow_key proto inside)
+      (cell_after (nat_asks nat flight) stamp (Some held)) (Some held) ≡ Some held
   leaves proto inside held stamp i (Out Look j packet) fits ranged = both _ (Some held)
   leaves proto inside held stamp i (Out (Try number) j packet) fits ranged = both _ (Some held)
   leaves proto inside held stamp i (Out (Confirm number version) j packet) fits ranged = both _ (Some held)
   leaves proto inside held stamp i (Out (Release number version port) j packet) fits ranged =
       go (port_key packet.proto (tried nat packet number) == flow_key proto inside) refl
     where
-      go : (b : Bool) → (port_key packet.proto (tried nat packet number) == flow_key proto inside) ≡ b → cond b (cell_after (nat_asks nat (Out (Release number version port) j packet)) stamp (Some held)) (Some held) ≡ Some held
+      go : (b : Bool) → (port_key packet.proto (tried nat packet number) == flow_key proto inside) ≡ b
+          → cond b (cell_after (nat_asks nat (Out (Release number version port) j packet)) stamp (Some held))
+          (Some held) ≡ Some held
       go true w = absurd (flow_port proto packet.proto inside (tried nat packet number) fits (is_nat.candidate_fits packet.proto packet.source number) (sym (eqb-true _ _ w)))
       go false w = refl
   leaves proto inside held stamp i (Out Last j packet) fits ranged = both _ (Some held)
@@ -128,11 +143,14 @@ module _ (nat : Nat) (is_nat : IsNat nat) (base_at : ℕ → ℕ) (begins : ℕ 
   leaves proto inside held stamp i (Sweep (Remove version) q port base) fits ranged =
       go (port_key q port == flow_key proto inside) refl
     where
-      go : (b : Bool) → (port_key q port == flow_key proto inside) ≡ b → cond b (cell_after (nat_asks nat (Sweep (Remove version) q port base)) stamp (Some held)) (Some held) ≡ Some held
+      go : (b : Bool) → (port_key q port == flow_key proto inside) ≡ b
+          → cond b (cell_after (nat_asks nat (Sweep (Remove version) q port base)) stamp (Some held))
+          (Some held) ≡ Some held
       go true w = absurd (flow_port proto q inside port fits ranged.0 (sym (eqb-true _ _ w)))
       go false w = refl
 
-  leaves_at : (before later : List Entry) (e : Entry) → es ≡ before ++ e ∷ later → (proto : Proto) (inside : Pair) (held : Held) → IsPair inside → cell_step (flow_key proto inside) (Some held) e ≡ Some held
+  leaves_at : (before later : List Entry) (e : Entry) → es ≡ before ++ e ∷ later → (proto : Proto) (inside : Pair)
+      (held : Held) → IsPair inside → cell_step (flow_key proto inside) (Some held) e ≡ Some held
   leaves_at before later e split proto inside held fits =
       let next : (flight : NatFlight) × IsNextOf nat base_at begins before e flight = next_of before later e split in
       ap (λ r. cond (key_of r == flow_key proto inside) (cell_after r e.stamp (Some held)) (Some held)) next.1.asked
@@ -142,14 +160,17 @@ module _ (nat : Nat) (is_nat : IsNat nat) (base_at : ℕ → ℕ) (begins : ℕ 
   append_assoc [] ys zs = refl
   append_assoc (x ∷ xs) ys zs = ap (λ l. x ∷ l) (append_assoc xs ys zs)
 
-  stays_along : (xs ys zs : List Entry) → es ≡ xs ++ (ys ++ zs) → (proto : Proto) (inside : Pair) (held : Held) → IsPair inside → cell_of (flow_key proto inside) (Some held) ys ≡ Some held
+  stays_along : (xs ys zs : List Entry) → es ≡ xs ++ (ys ++ zs) → (proto : Proto) (inside : Pair) (held : Held)
+      → IsPair inside → cell_of (flow_key proto inside) (Some held) ys ≡ Some held
   stays_along xs [] zs split proto inside held fits = refl
   stays_along xs (y ∷ ys) zs split proto inside held fits =
       ap (λ cell. cell_of (flow_key proto inside) cell ys) (leaves_at xs (ys ++ zs) y split proto inside held fits)
       ∙ stays_along (xs ++ y ∷ []) ys zs (split ∙ sym (append_assoc xs (y ∷ []) (ys ++ zs))) proto inside held fits
 
   -- What a flow's key has stays.
-  pub flow_stays : (xs ys zs : List Entry) → es ≡ xs ++ (ys ++ zs) → (proto : Proto) (inside : Pair) (held : Held) → IsPair inside → map_after empty xs (flow_key proto inside) ≡ Some held → map_after empty (xs ++ ys) (flow_key proto inside) ≡ Some held
+  pub flow_stays : (xs ys zs : List Entry) → es ≡ xs ++ (ys ++ zs) → (proto : Proto) (inside : Pair) (held : Held)
+      → IsPair inside → map_after empty xs (flow_key proto inside) ≡ Some held → map_after empty (xs ++ ys)
+      (flow_key proto inside) ≡ Some held
   flow_stays xs ys zs split proto inside held fits there =
       cell_of-append (flow_key proto inside) None xs ys
       ∙ ap (λ cell. cell_of (flow_key proto inside) cell ys) there

@@ -34,7 +34,8 @@ HasPort (Flies (In state packet)) = Unit {0}
 HasPort (Flies (Sweep state proto port base)) = Unit {0}
 HasPort (Ends end) = end ≡ Some (Dropped NoPort) → ⊥
 
-has_port_step : (nat : Nat) (flight : NatFlight) (reply : Reply) → HasPort (Flies flight) → HasPort (nat_goes nat flight reply)
+has_port_step : (nat : Nat) (flight : NatFlight) (reply : Reply) → HasPort (Flies flight)
+    → HasPort (nat_goes nat flight reply)
 has_port_step nat (Out state i packet) reply h = absurd h
 has_port_step nat (In LookPort packet) (Done stamp) h = λ q. cc
 has_port_step nat (In LookPort packet) (Found value stamp) h = go (claim_of value.0)
@@ -46,7 +47,8 @@ has_port_step nat (In LookPort packet) Absent h = λ q. cc
 has_port_step nat (In (LookFlow inside) packet) (Done stamp) h = λ q. cc
 has_port_step nat (In (LookFlow inside) packet) (Found value stamp) h = go (flow_to_of value.0)
   where
-    by : (b : Bool) → let v : Verdict = cond b (Emit (Dest inside)) (Dropped NoFlow) in Some v ≡ Some (Dropped NoPort) → ⊥
+    by : (b : Bool) → let v : Verdict = cond b (Emit (Dest inside))
+        (Dropped NoFlow) in Some v ≡ Some (Dropped NoPort) → ⊥
     by true h = cc
     by false h = cc
 
@@ -57,7 +59,8 @@ has_port_step nat (In (LookFlow inside) packet) Absent h = λ q. cc
 has_port_step nat (Sweep SweepPort proto port base) (Done stamp) h = λ q. cc
 has_port_step nat (Sweep SweepPort proto port base) (Found value stamp) h = go (claim_of value.0)
   where
-    by : (claim : Claim) (b : Bool) → HasPort (cond b (Flies (Sweep (SweepFlow claim.inside stamp) proto port base)) (Ends None))
+    by : (claim : Claim) (b : Bool)
+        → HasPort (cond b (Flies (Sweep (SweepFlow claim.inside stamp) proto port base)) (Ends None))
     by claim true = tt
     by claim false = λ q. cc
 
@@ -74,13 +77,15 @@ has_port_step nat (Sweep (SweepFlow inside version) proto port base) (Found valu
 has_port_step nat (Sweep (SweepFlow inside version) proto port base) Absent h = tt
 has_port_step nat (Sweep (Remove version) proto port base) reply h = λ q. cc
 
-has_port : (nat : Nat) (st : Stand NatFlight) (es : List Entry) → HasPort st → HasPort (stand_after (nat_machine nat) st es)
+has_port : (nat : Nat) (st : Stand NatFlight) (es : List Entry) → HasPort st
+    → HasPort (stand_after (nat_machine nat) st es)
 has_port nat st [] h = h
 has_port nat (Flies flight) (e ∷ es) h = has_port nat (nat_goes nat flight e.reply) es (has_port_step nat flight e.reply h)
 has_port nat (Ends end) (e ∷ es) h = has_port nat (Ends end) es h
 
 -- a packet that is decided so has ended
-ended_so : (nat : Nat) (st : Stand NatFlight) → decided_at (nat_machine nat) st ≡ Some (Dropped NoPort) → st ≡ Ends (Some (Dropped NoPort))
+ended_so : (nat : Nat) (st : Stand NatFlight) → decided_at (nat_machine nat) st ≡ Some (Dropped NoPort)
+    → st ≡ Ends (Some (Dropped NoPort))
 ended_so nat (Flies (Out Look i packet)) h = cc
 ended_so nat (Flies (Out (Try number) i packet)) h = cc
 ended_so nat (Flies (Out (Confirm number version) i packet)) h = cc
@@ -111,10 +116,12 @@ module _ (nat : Nat) (is_nat : IsNat nat) (base_at : ℕ → ℕ) (begins : ℕ 
       stands =
           ended_so nat _ (ap (λ l. decided_at (nat_machine nat) (stand_of (nat_scene nat begins) f.incarnation f.item l)) front ∙ ap (decided_at (nat_machine nat)) (stand_of-own (nat_scene nat begins) (take d es) f) ∙ whole.after ∙ ap (λ v. Some v) none)
 
-      after : (first : NatFlight) → x.first ≡ first → stand_after (nat_machine nat) (Flies first) (own_of f.incarnation f.item (take (suc d) es)) ≡ Ends (Some (Dropped NoPort))
+      after : (first : NatFlight) → x.first ≡ first → stand_after (nat_machine nat) (Flies first)
+          (own_of f.incarnation f.item (take (suc d) es)) ≡ Ends (Some (Dropped NoPort))
       after first is = ap (λ st. stand_after (nat_machine nat) st (own_of f.incarnation f.item (take (suc d) es))) (ap (λ q. Flies q) (sym is) ∙ sym whole.begins) ∙ stands
 
-      path : (first : NatFlight) → x.first ≡ first → IsPath (nat_machine nat) (Flies first) (own_of f.incarnation f.item (take (suc d) es))
+      path : (first : NatFlight) → x.first ≡ first → IsPath (nat_machine nat) (Flies first)
+          (own_of f.incarnation f.item (take (suc d) es))
       path first is =
           subst (λ st. IsPath (nat_machine nat) st (own_of f.incarnation f.item (take (suc d) es))) (whole.begins ∙ ap (λ q. Flies q) is)
           (path-front (nat_machine nat) (begins f.incarnation f.item) (own_of f.incarnation f.item (take (suc d) es)) (own_of f.incarnation f.item (drop (suc d) es))
@@ -123,7 +130,8 @@ module _ (nat : Nat) (is_nat : IsNat nat) (base_at : ℕ → ℕ) (begins : ℕ 
       no_end : (st : Stand NatFlight) → HasPort st → st ≡ Ends (Some (Dropped NoPort)) → ⊥
       no_end st h is = (subst HasPort is h) refl
 
-      go : (first : NatFlight) → x.first ≡ first → (i : ℕ) × (packet : Packet) × (x.first ≡ Out Look i packet) × IsStarved nat i packet (own_of f.incarnation f.item (take (suc d) es))
+      go : (first : NatFlight) → x.first ≡ first
+          → (i : ℕ) × (packet : Packet) × (x.first ≡ Out Look i packet) × IsStarved nat i packet (own_of f.incarnation f.item (take (suc d) es))
       go (Out state i packet) is =
           let began : first_of (Out state i packet) ≡ Out state i packet = given.firsts f.incarnation f.item (Out state i packet) (whole.begins ∙ ap (λ q. Flies q) is) in
           let first : x.first ≡ Out Look i packet = is ∙ sym began in

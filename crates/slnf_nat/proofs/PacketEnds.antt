@@ -45,11 +45,13 @@ looked_well : (to : Option FlowTo) → IsPacketStand (stand_of_step (looked to))
 looked_well None = tt
 looked_well (Some to) = tt
 
-released_well : (i : ℕ) (packet : Packet) (number version : ℕ) (to : Option FlowTo) → IsPacketStand (stand_of_step (released i packet number version to))
+released_well : (i : ℕ) (packet : Packet) (number version : ℕ) (to : Option FlowTo)
+    → IsPacketStand (stand_of_step (released i packet number version to))
 released_well i packet number version None = tt
 released_well i packet number version (Some to) = tt
 
-out_well : (nat : Nat) (i : ℕ) (packet : Packet) (state : OutState) (reply : Reply) → IsPacketStand (stand_of_step (goes_out nat i packet state reply))
+out_well : (nat : Nat) (i : ℕ) (packet : Packet) (state : OutState) (reply : Reply)
+    → IsPacketStand (stand_of_step (goes_out nat i packet state reply))
 out_well nat i packet Look (Done stamp) = tt
 out_well nat i packet Look (Found value stamp) = looked_well (flow_to_of value.0)
 out_well nat i packet Look Absent = tt
@@ -68,15 +70,18 @@ claimed_well : (packet : Packet) (claim : Option Claim) → IsPacketStand (stand
 claimed_well packet None = tt
 claimed_well packet (Some claim) = tt
 
-entered_well : (packet : Packet) (inside : Pair) (to : Option FlowTo) → IsPacketStand (stand_of_step (entered packet inside to))
+entered_well : (packet : Packet) (inside : Pair) (to : Option FlowTo)
+    → IsPacketStand (stand_of_step (entered packet inside to))
 entered_well packet inside None = tt
 entered_well packet inside (Some to) = go (is_same_pair to.outside packet.dest)
   where
-    go : (b : Bool) → EndsWell (let st : Stand NatFlight = Ends (Some (cond b (Emit (Dest inside)) (Dropped NoFlow))) in st)
+    go : (b : Bool)
+        → EndsWell (let st : Stand NatFlight = Ends (Some (cond b (Emit (Dest inside)) (Dropped NoFlow))) in st)
     go true = tt
     go false = tt
 
-in_well : (packet : Packet) (state : InState) (reply : Reply) → IsPacketStand (stand_of_step (goes_in packet state reply))
+in_well : (packet : Packet) (state : InState) (reply : Reply)
+    → IsPacketStand (stand_of_step (goes_in packet state reply))
 in_well packet LookPort (Done stamp) = tt
 in_well packet LookPort (Found value stamp) = claimed_well packet (claim_of value.0)
 in_well packet LookPort Absent = tt
@@ -84,7 +89,8 @@ in_well packet (LookFlow inside) (Done stamp) = tt
 in_well packet (LookFlow inside) (Found value stamp) = entered_well packet inside (flow_to_of value.0)
 in_well packet (LookFlow inside) Absent = tt
 
-packet_step : (nat : Nat) (flight : NatFlight) (reply : Reply) → IsPacketStand (Flies flight) → IsPacketStand (nat_goes nat flight reply)
+packet_step : (nat : Nat) (flight : NatFlight) (reply : Reply) → IsPacketStand (Flies flight)
+    → IsPacketStand (nat_goes nat flight reply)
 packet_step nat (Out state i packet) reply h = out_well nat i packet state reply
 packet_step nat (In state packet) reply h = in_well packet state reply
 packet_step nat (Sweep state proto port base) reply h = absurd h
@@ -101,15 +107,18 @@ IsSweepStand (Flies (Sweep state proto port base)) = Unit {0}
 IsSweepStand (Ends None) = Unit {0}
 IsSweepStand (Ends (Some verdict)) = ⊥
 
-swept_sweeps : (proto : Proto) (port : Pair) (base version : ℕ) (claim : Option Claim) → IsSweepStand (swept proto port base version claim)
+swept_sweeps : (proto : Proto) (port : Pair) (base version : ℕ) (claim : Option Claim)
+    → IsSweepStand (swept proto port base version claim)
 swept_sweeps proto port base version None = tt
 swept_sweeps proto port base version (Some claim) = go (nat_lt claim.incarnation base)
   where
-    go : (b : Bool) → IsSweepStand (cond b (Flies (Sweep (SweepFlow claim.inside version) proto port base)) (Ends None))
+    go : (b : Bool)
+        → IsSweepStand (cond b (Flies (Sweep (SweepFlow claim.inside version) proto port base)) (Ends None))
     go true = tt
     go false = tt
 
-sweep_sweeps : (proto : Proto) (port : Pair) (base : ℕ) (state : SweepState) (reply : Reply) → IsSweepStand (goes_sweep proto port base state reply)
+sweep_sweeps : (proto : Proto) (port : Pair) (base : ℕ) (state : SweepState) (reply : Reply)
+    → IsSweepStand (goes_sweep proto port base state reply)
 sweep_sweeps proto port base SweepPort (Done stamp) = tt
 sweep_sweeps proto port base SweepPort (Found value stamp) = swept_sweeps proto port base stamp (claim_of value.0)
 sweep_sweeps proto port base SweepPort Absent = tt
@@ -122,7 +131,8 @@ sweep_sweeps proto port base (SweepFlow inside version) (Found value stamp) = go
 sweep_sweeps proto port base (SweepFlow inside version) Absent = tt
 sweep_sweeps proto port base (Remove version) reply = tt
 
-sweep_step : (nat : Nat) (flight : NatFlight) (reply : Reply) → IsSweepStand (Flies flight) → IsSweepStand (nat_goes nat flight reply)
+sweep_step : (nat : Nat) (flight : NatFlight) (reply : Reply) → IsSweepStand (Flies flight)
+    → IsSweepStand (nat_goes nat flight reply)
 sweep_step nat (Out state i packet) reply h = absurd h
 sweep_step nat (In state packet) reply h = absurd h
 sweep_step nat (Sweep state proto port base) reply h = sweep_sweeps proto port base state reply
@@ -135,19 +145,26 @@ undecided_of nat (Ends None) h = refl
 undecided_of nat (Ends (Some verdict)) h = absurd h
 
 -- what a sweep's item begins as
-pub item_sweeps : (P : Stand NatFlight → Type 0) (pool : Pool) (base item : ℕ) → ((proto : Proto) (place : ℕ) → P (Flies (Sweep SweepPort proto (pool_port pool place) base))) → P (Ends None) → P (sweep_item pool base item)
+pub item_sweeps : (P : Stand NatFlight → Type 0) (pool : Pool) (base item : ℕ)
+    → ((proto : Proto) (place : ℕ) → P (Flies (Sweep SweepPort proto (pool_port pool place) base))) → P (Ends None)
+    → P (sweep_item pool base item)
 item_sweeps P pool base item there none = go (nat_lt item (port_count pool)) (nat_lt item (2 * port_count pool))
   where
-    go : (b d : Bool) → P (cond b (Flies (Sweep SweepPort Tcp (pool_port pool item) base)) (cond d (Flies (Sweep SweepPort Udp (pool_port pool (item - port_count pool)) base)) (Ends None)))
+    go : (b d : Bool)
+        → P (cond b (Flies (Sweep SweepPort Tcp (pool_port pool item) base)) (cond d (Flies (Sweep SweepPort Udp (pool_port pool (item - port_count pool)) base)) (Ends None)))
     go true d = there Tcp item
     go false true = there Udp (item - port_count pool)
     go false false = none
 
 -- what a packet starts as
-pub starts_as : (P : NatFlight → Type 0) (pool : Pool) (i k : ℕ) (packet : Packet) (first : NatFlight) → nat_starts pool i k packet ≡ StartGo first → (is_outbound pool packet ≡ true → P (Out Look i packet)) → (is_outbound pool packet ≡ false → is_inbound pool packet ≡ true → P (In LookPort packet)) → P first
+pub starts_as : (P : NatFlight → Type 0) (pool : Pool) (i k : ℕ) (packet : Packet) (first : NatFlight)
+    → nat_starts pool i k packet ≡ StartGo first → (is_outbound pool packet ≡ true → P (Out Look i packet))
+    → (is_outbound pool packet ≡ false → is_inbound pool packet ≡ true → P (In LookPort packet)) → P first
 starts_as P pool i k packet first h out in_ = go (is_outbound pool packet) (is_inbound pool packet) refl refl h
   where
-    go : (b d : Bool) → is_outbound pool packet ≡ b → is_inbound pool packet ≡ d → (let s : Start NatFlight = cond b (StartGo (Out Look i packet)) (cond d (StartGo (In LookPort packet)) (StartOver Neither)) in s) ≡ StartGo first → P first
+    go : (b d : Bool) → is_outbound pool packet ≡ b → is_inbound pool packet ≡ d
+        → (let s : Start NatFlight = cond b (StartGo (Out Look i packet)) (cond d (StartGo (In LookPort packet)) (StartOver Neither)) in s) ≡ StartGo first
+        → P first
     go true d w v h = let is : Out Look i packet ≡ first = cc in subst P is (out w)
     go false true w v h = let is : In LookPort packet ≡ first = cc in subst P is (in_ w v)
     go false false w v h = absurd (cc)

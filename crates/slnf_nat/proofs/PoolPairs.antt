@@ -17,12 +17,14 @@ port_within pool n h =
     (omega arith, omega arith)
 
 -- a pair at a place of the pool is one of its pairs
-pub port_has : (pool : Pool) (n : ℕ) → n < port_count pool → has_pair pool (record { addr = pool.outside; port = pool.low + n }) ≡ true
+pub port_has : (pool : Pool) (n : ℕ) → n < port_count pool
+    → has_pair pool (record { addr = pool.outside; port = pool.low + n }) ≡ true
 port_has pool n h =
     let r : (pool.low ≤ pool.low + n) × (pool.low + n ≤ pool.high) = port_within pool n h in
     and_from _ _ (eq-eqb pool.outside pool.outside refl) (and_from _ _ (le-leb pool.low (pool.low + n) r.0) (le-leb (pool.low + n) pool.high r.1))
 
-pub port_fits : (pool : Pool) → pool.outside < 2 ^ 32 → pool.high < 2 ^ 16 → (n : ℕ) → n < port_count pool → IsPair (let pair : Pair = record { addr = pool.outside; port = pool.low + n } in pair)
+pub port_fits : (pool : Pool) → pool.outside < 2 ^ 32 → pool.high < 2 ^ 16 → (n : ℕ) → n < port_count pool
+    → IsPair (let pair : Pair = record { addr = pool.outside; port = pool.low + n } in pair)
 port_fits pool outside high n h =
     let r : pool.low + n ≤ pool.high = (port_within pool n h).1 in
     record { addr_fits = outside; port_fits = omega (arith, r, high) }
@@ -32,7 +34,8 @@ place_below : (pool : Pool) (x : ℕ) → x % port_count pool < port_count pool
 place_below pool x = mod_below x (port_count pool) (let some : 0 < pool.high - pool.low + 1 = omega arith in some)
 
 -- each pair of the pool is a candidate of each flow
-pub pool_covers : (pool : Pool) (inside port : Pair) → has_pair pool port ≡ true → (place : ℕ) × (place < port_count pool) × (candidate pool inside place ≡ port)
+pub pool_covers : (pool : Pool) (inside port : Pair) → has_pair pool port ≡ true
+    → (place : ℕ) × (place < port_count pool) × (candidate pool inside place ≡ port)
 pool_covers pool inside port has =
     let a : ((port.addr == pool.outside) ≡ true) × ((nat_le pool.low port.port && nat_le port.port pool.high) ≡ true) = and_parts (port.addr == pool.outside) (nat_le pool.low port.port && nat_le port.port pool.high) has in
     let b : (nat_le pool.low port.port ≡ true) × (nat_le port.port pool.high ≡ true) = and_parts (nat_le pool.low port.port) (nat_le port.port pool.high) a.1 in

@@ -45,21 +45,25 @@ looked_small : (ports : ℕ) (to : Option FlowTo) → rank_at (nat_rank ports) (
 looked_small ports None = omega arith
 looked_small ports (Some to) = omega arith
 
-released_small : (ports i : ℕ) (packet : Packet) (place version : ℕ) (to : Option FlowTo) → rank_at (nat_rank ports) (stand_of_step (released i packet place version to)) ≤ 1
+released_small : (ports i : ℕ) (packet : Packet) (place version : ℕ) (to : Option FlowTo) → rank_at (nat_rank ports)
+    (stand_of_step (released i packet place version to)) ≤ 1
 released_small ports i packet place version None = omega arith
 released_small ports i packet place version (Some to) = omega arith
 
-tried_small : (nat : Nat) (i : ℕ) (packet : Packet) (place : ℕ) → suc (rank_at (nat_rank nat.ports) (Flies (Out (try_after nat place) i packet))) ≤ (nat.ports - (place + 1)) + 3
+tried_small : (nat : Nat) (i : ℕ) (packet : Packet) (place : ℕ)
+    → suc (rank_at (nat_rank nat.ports) (Flies (Out (try_after nat place) i packet))) ≤ (nat.ports - (place + 1)) + 3
 tried_small nat i packet place = go (nat_lt (place + 1) nat.ports) refl
   where
-    go : (b : Bool) → nat_lt (place + 1) nat.ports ≡ b → suc (out_rank nat.ports (cond b (Try (place + 1)) Last)) ≤ (nat.ports - (place + 1)) + 3
+    go : (b : Bool) → nat_lt (place + 1) nat.ports ≡ b
+        → suc (out_rank nat.ports (cond b (Try (place + 1)) Last)) ≤ (nat.ports - (place + 1)) + 3
     go true w =
         let low : place + 1 < nat.ports = ltb-true (place + 1) nat.ports w in
         let r : suc (nat.ports - (place + 1 + 1) + 3) ≤ nat.ports - (place + 1) + 3 = omega (arith, low) in
         r
     go false w = omega arith
 
-out_falls : (nat : Nat) → 0 < nat.ports → (i : ℕ) (packet : Packet) (state : OutState) (reply : Reply) → suc (rank_at (nat_rank nat.ports) (stand_of_step (goes_out nat i packet state reply))) ≤ out_rank nat.ports state
+out_falls : (nat : Nat) → 0 < nat.ports → (i : ℕ) (packet : Packet) (state : OutState) (reply : Reply)
+    → suc (rank_at (nat_rank nat.ports) (stand_of_step (goes_out nat i packet state reply))) ≤ out_rank nat.ports state
 out_falls nat some i packet Look (Done stamp) = omega arith
 out_falls nat some i packet Look (Found value stamp) = let r : rank_at (nat_rank nat.ports) (stand_of_step (looked (flow_to_of value.0))) ≤ 0 = looked_small nat.ports (flow_to_of value.0) in omega arith
 out_falls nat some i packet Look Absent = let r : suc ((nat.ports - (0 + 1)) + 3) ≤ nat.ports + 3 = omega (arith, some) in r
@@ -74,15 +78,18 @@ out_falls nat some i packet Last (Done stamp) = omega arith
 out_falls nat some i packet Last (Found value stamp) = let r : rank_at (nat_rank nat.ports) (stand_of_step (looked (flow_to_of value.0))) ≤ 0 = looked_small nat.ports (flow_to_of value.0) in omega arith
 out_falls nat some i packet Last Absent = omega arith
 
-claimed_small : (ports : ℕ) (packet : Packet) (claim : Option Claim) → rank_at (nat_rank ports) (stand_of_step (claimed packet claim)) ≤ 1
+claimed_small : (ports : ℕ) (packet : Packet) (claim : Option Claim) → rank_at (nat_rank ports)
+    (stand_of_step (claimed packet claim)) ≤ 1
 claimed_small ports packet None = omega arith
 claimed_small ports packet (Some claim) = omega arith
 
-entered_small : (ports : ℕ) (packet : Packet) (inside : Pair) (to : Option FlowTo) → rank_at (nat_rank ports) (stand_of_step (entered packet inside to)) ≤ 0
+entered_small : (ports : ℕ) (packet : Packet) (inside : Pair) (to : Option FlowTo) → rank_at (nat_rank ports)
+    (stand_of_step (entered packet inside to)) ≤ 0
 entered_small ports packet inside None = omega arith
 entered_small ports packet inside (Some to) = omega arith
 
-in_falls : (ports : ℕ) (packet : Packet) (state : InState) (reply : Reply) → suc (rank_at (nat_rank ports) (stand_of_step (goes_in packet state reply))) ≤ in_rank state
+in_falls : (ports : ℕ) (packet : Packet) (state : InState) (reply : Reply)
+    → suc (rank_at (nat_rank ports) (stand_of_step (goes_in packet state reply))) ≤ in_rank state
 in_falls ports packet LookPort (Done stamp) = omega arith
 in_falls ports packet LookPort (Found value stamp) = let r : rank_at (nat_rank ports) (stand_of_step (claimed packet (claim_of value.0))) ≤ 1 = claimed_small ports packet (claim_of value.0) in omega arith
 in_falls ports packet LookPort Absent = omega arith
@@ -90,19 +97,23 @@ in_falls ports packet (LookFlow inside) (Done stamp) = omega arith
 in_falls ports packet (LookFlow inside) (Found value stamp) = let r : rank_at (nat_rank ports) (stand_of_step (entered packet inside (flow_to_of value.0))) ≤ 0 = entered_small ports packet inside (flow_to_of value.0) in omega arith
 in_falls ports packet (LookFlow inside) Absent = omega arith
 
-swept_small : (ports : ℕ) (proto : Proto) (port : Pair) (base version : ℕ) (claim : Option Claim) → rank_at (nat_rank ports) (swept proto port base version claim) ≤ 2
+swept_small : (ports : ℕ) (proto : Proto) (port : Pair) (base version : ℕ) (claim : Option Claim)
+    → rank_at (nat_rank ports) (swept proto port base version claim) ≤ 2
 swept_small ports proto port base version None = omega arith
 swept_small ports proto port base version (Some claim) = go (nat_lt claim.incarnation base)
   where
-    go : (b : Bool) → rank_at (nat_rank ports) (cond b (Flies (Sweep (SweepFlow claim.inside version) proto port base)) (Ends None)) ≤ 2
+    go : (b : Bool) → rank_at (nat_rank ports)
+        (cond b (Flies (Sweep (SweepFlow claim.inside version) proto port base)) (Ends None)) ≤ 2
     go true = omega arith
     go false = omega arith
 
-named_small : (ports : ℕ) (proto : Proto) (port : Pair) (base version : ℕ) (b : Bool) → rank_at (nat_rank ports) (cond b (Ends None) (Flies (Sweep (Remove version) proto port base))) ≤ 1
+named_small : (ports : ℕ) (proto : Proto) (port : Pair) (base version : ℕ) (b : Bool) → rank_at (nat_rank ports)
+    (cond b (Ends None) (Flies (Sweep (Remove version) proto port base))) ≤ 1
 named_small ports proto port base version true = omega arith
 named_small ports proto port base version false = omega arith
 
-sweep_falls : (ports : ℕ) (proto : Proto) (port : Pair) (base : ℕ) (state : SweepState) (reply : Reply) → suc (rank_at (nat_rank ports) (goes_sweep proto port base state reply)) ≤ sweep_rank state
+sweep_falls : (ports : ℕ) (proto : Proto) (port : Pair) (base : ℕ) (state : SweepState) (reply : Reply)
+    → suc (rank_at (nat_rank ports) (goes_sweep proto port base state reply)) ≤ sweep_rank state
 sweep_falls ports proto port base SweepPort (Done stamp) = omega arith
 sweep_falls ports proto port base SweepPort (Found value stamp) = let r : rank_at (nat_rank ports) (swept proto port base stamp (claim_of value.0)) ≤ 2 = swept_small ports proto port base stamp (claim_of value.0) in omega arith
 sweep_falls ports proto port base SweepPort Absent = omega arith
@@ -111,7 +122,8 @@ sweep_falls ports proto port base (SweepFlow inside version) (Found value stamp)
 sweep_falls ports proto port base (SweepFlow inside version) Absent = omega arith
 sweep_falls ports proto port base (Remove version) reply = omega arith
 
-nat_falls : (nat : Nat) → 0 < nat.ports → (flight : NatFlight) (reply : Reply) → suc (rank_at (nat_rank nat.ports) (nat_goes nat flight reply)) ≤ nat_rank nat.ports flight
+nat_falls : (nat : Nat) → 0 < nat.ports → (flight : NatFlight) (reply : Reply)
+    → suc (rank_at (nat_rank nat.ports) (nat_goes nat flight reply)) ≤ nat_rank nat.ports flight
 nat_falls nat some (Out state i packet) reply = out_falls nat some i packet state reply
 nat_falls nat some (In state packet) reply = in_falls nat.ports packet state reply
 nat_falls nat some (Sweep state proto port base) reply = sweep_falls nat.ports proto port base state reply
@@ -147,7 +159,8 @@ path_bound nat some (Ends end) (e ∷ own) path = absurd path.0
 at_most : (a b c : ℕ) → a ≤ b → b ≤ c → a ≤ c
 at_most a b c h k = omega arith
 
-pub out_short : (nat : Nat) (state : OutState) (incarnation : ℕ) (packet : Packet) (own : List Entry) → 0 < nat.ports →
+pub out_short : (nat : Nat) (state : OutState) (incarnation : ℕ) (packet : Packet) (own : List Entry)
+    → 0 < nat.ports →
     IsPath (nat_machine nat) (Flies (Out state incarnation packet)) own → length own ≤ nat.ports + 3
 out_short nat state incarnation packet own some path =
     at_most (length own) (out_rank nat.ports state) (nat.ports + 3)

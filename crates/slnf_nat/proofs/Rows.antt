@@ -92,11 +92,13 @@ out_place : visits_of (nat_scene nat begins) es 4 e4 ≡ record { arrival = reco
 unfolding flow_key_number port_key_number single_number key_number pair_number flow_to_number claim_number claim_of pair_at pair_of flow_to_of
 out_place = refl
 
-content : content_after (nat_scene nat begins) (nat_box nat) es 5 ≡ record { proto = Tcp; inside = inner; outside = outer } ∷ []
+content : content_after (nat_scene nat begins)
+    (nat_box nat) es 5 ≡ record { proto = Tcp; inside = inner; outside = outer } ∷ []
 unfolding flow_key_number port_key_number single_number key_number pair_number flow_to_number claim_number claim_of pair_at pair_of flow_to_of
 content = refl
 
-covered : (inside port : Pair) → nat.allows inside port ≡ true → (number : ℕ) × (number < 2) × (nat.candidate Tcp inside number ≡ port)
+covered : (inside port : Pair) → nat.allows inside port ≡ true
+    → (number : ℕ) × (number < 2) × (nat.candidate Tcp inside number ≡ port)
 covered inside port allowed =
     let a = and_parts (port.addr == 203) (nat_le 40000 port.port && nat_le port.port 40001) allowed in
     let b = and_parts (nat_le 40000 port.port) (nat_le port.port 40001) a.1 in

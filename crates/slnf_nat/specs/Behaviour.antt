@@ -1,5 +1,4 @@
 -- What the NAT's function does with packets.
-use Rattle.std.specs.Prelude.{ℕ, Option}
 use Rattle.slnf_base.specs.declared.packets.Verdict.TheVariants.{Lost}
 use Rattle.slnf_base.specs.declared.plans.Pool.{Pool}
 use Rattle.slnf_access.specs.declared.requests.Reply.{Reply}

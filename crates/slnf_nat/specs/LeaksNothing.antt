@@ -15,7 +15,7 @@ use Rattle.slnf_nat.specs.Machine.{Nat, port_key}
 use Rattle.slnf_nat.specs.NatBox.{NatArrival}
 use Rattle.slnf_nat.specs.NatScene.{nat_scene}
 use Rattle.slnf_nat.specs.Given.{IsRanged}
-use Rattle.slnf_nat.specs.Leaks.{IsSweepOf, IsThrough, IsTidy, IsBacked, IsClaim, IsTaken, IsOneToOne}
+use Rattle.slnf_nat.specs.Leaks.{IsSweepOf, IsThrough, IsTidy, IsBacked, HasClaim, IsSweptAway, IsOneToOne}
 
 -- an incarnation is a sweep
 pub record IsSweepAt {G A : Type 0} (s : Setting G A) (es : List Entry) (i : ℕ) : Type 0 where
@@ -36,7 +36,8 @@ IsSweepItem (Flies (Sweep state proto port base)) = Unit {0}
 IsSweepItem (Ends end) = Unit {0}
 
 -- What is asked of a setting: the items of its actors are the NAT's, and those of a sweep the ports of the pool.
-pub record IsNatSetting {G : Type 0} (s : Setting G NatArrival) (into : NatFlight → G) (nat : Nat) (begins : ℕ → ℕ → Stand NatFlight) (es : List Entry) : Type 0 where
+pub record IsNatSetting {G : Type 0} (s : Setting G NatArrival) (into : NatFlight → G) (nat : Nat)
+    (begins : ℕ → ℕ → Stand NatFlight) (es : List Entry) : Type 0 where
   pub image : IsSceneImage into (nat_scene nat begins) s.scene
   pub firsts : (i k : ℕ) (flight : NatFlight) → begins i k ≡ Flies flight → first_of flight ≡ flight
   pub ranges : (i k : ℕ) (flight : NatFlight) → begins i k ≡ Flies flight → IsRanged nat (own_base s.eras) i flight
@@ -44,18 +45,34 @@ pub record IsNatSetting {G : Type 0} (s : Setting G NatArrival) (into : NatFligh
   pub sweeps : (i k : ℕ) → IsSweepAt s es i → IsSweepItem (begins i k)
 
 -- `view` says where in the store's map the NAT's keys stand.
-pub record LeaksNothing {G A : Type 0} (nat : Nat) (view : Cells → Cells) (s : Setting G A) (es : List Entry) : Type 0 where
+pub record LeaksNothing {G A : Type 0} (nat : Nat) (view : Cells → Cells) (s : Setting G A)
+    (es : List Entry) : Type 0 where
   -- The entries of the epochs up to any one are a front of the list.
   pub through : (i : ℕ) → (t : ℕ) × IsThrough (era_of s.eras) (era_of s.eras i) es t
   -- After the entries of an epoch whose sweep isn't stopped, each claim of an incarnation below its base has its flow's record, which names the claim's port.
-  pub tidy : (i t : ℕ) → IsFinishedAt s es i → IsThrough (era_of s.eras) (era_of s.eras i) es t → IsTidy nat (view (map_after empty (take t es))) (own_base s.eras i)
+  pub tidy : (i t : ℕ) → IsFinishedAt s es i → IsThrough (era_of s.eras) (era_of s.eras i) es t
+      → IsTidy nat (view (map_after empty (take t es))) (own_base s.eras i)
   -- After such an epoch without instances, claims and live flows correspond one to one.
-  pub alone : (i t : ℕ) (era : Era) → IsFinishedAt s es i → IsThrough (era_of s.eras) (era_of s.eras i) es t → slice_get s.eras (era_of s.eras i) ≡ Some era → length era.actors ≡ 1 → IsOneToOne nat (view (map_after empty (take t es)))
+  pub alone : (i t : ℕ) (era : Era) → IsFinishedAt s es i → IsThrough (era_of s.eras) (era_of s.eras i) es t
+      → slice_get s.eras (era_of s.eras i) ≡ Some era → length era.actors ≡ 1
+      → IsOneToOne nat (view (map_after empty (take t es)))
   -- And so they do after an epoch with instances of which no actor is stopped.
-  pub settled : (i t : ℕ) (era : Era) → IsFinishedAt s es i → IsThrough (era_of s.eras) (era_of s.eras i) es t → slice_get s.eras (era_of s.eras i) ≡ Some era → ((j : ℕ) (post : Post) → slice_get (posts_of s es) j ≡ Some post → era_of s.eras j ≡ era_of s.eras i → is_stopped post.actor (part_of j es) ≡ false) → IsOneToOne nat (view (map_after empty (take t es)))
+  pub settled : (i t : ℕ) (era : Era) → IsFinishedAt s es i → IsThrough (era_of s.eras) (era_of s.eras i) es t
+      → slice_get s.eras (era_of s.eras i) ≡ Some era
+      → ((j : ℕ) (post : Post) → slice_get (posts_of s es) j ≡ Some post → era_of s.eras j
+          ≡ era_of s.eras i → is_stopped post.actor (part_of j es) ≡ false)
+      → IsOneToOne nat (view (map_after empty (take t es)))
   -- At every t each live flow's port has a claim with that flow's inside pair.
   pub backed : (t : ℕ) → t ≤ length es → IsBacked nat (view (map_after empty (take t es)))
   -- A sweep's entry leaves each key, or takes a claim away of an incarnation below its base, whose port no live flow names.
-  pub careful : (before later : List Entry) (e : Entry) → es ≡ before ++ e ∷ later → IsSweepAt s es e.incarnation → (key : ℕ) → (view (map_after empty (before ++ e ∷ [])) key ≡ view (map_after empty before) key) ⊎ ((proto : Proto) × (port : Pair) × IsPair port × (key ≡ port_key proto port) × IsTaken (view (map_after empty before)) (view (map_after empty (before ++ e ∷ []))) proto port (own_base s.eras e.incarnation))
+  pub careful : (before later : List Entry) (e : Entry) → es ≡ before ++ e ∷ later → IsSweepAt s es e.incarnation
+      → (key : ℕ)
+      → (view (map_after empty (before ++ e ∷ [])) key ≡ view (map_after empty before) key) ⊎
+          ((proto : Proto) × (port : Pair) × IsPair port × (key ≡ port_key proto port)
+          × IsSweptAway (view (map_after empty before)) (view (map_after empty (before ++ e ∷ []))) proto port
+          (own_base s.eras e.incarnation))
   -- So no sweep takes a claim away of its own epoch's instances.
-  pub own : (before later : List Entry) (e : Entry) → es ≡ before ++ e ∷ later → IsSweepAt s es e.incarnation → (proto : Proto) (port : Pair) (claim : Claim) → IsClaim (view (map_after empty before)) proto port claim → era_of s.eras claim.incarnation ≡ era_of s.eras e.incarnation → view (map_after empty (before ++ e ∷ [])) (port_key proto port) ≡ view (map_after empty before) (port_key proto port)
+  pub own : (before later : List Entry) (e : Entry) → es ≡ before ++ e ∷ later → IsSweepAt s es e.incarnation
+      → (proto : Proto) (port : Pair) (claim : Claim) → HasClaim (view (map_after empty before)) proto port claim
+      → era_of s.eras claim.incarnation ≡ era_of s.eras e.incarnation → view (map_after empty (before ++ e ∷ []))
+      (port_key proto port) ≡ view (map_after empty before) (port_key proto port)

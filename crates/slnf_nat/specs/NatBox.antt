@@ -44,9 +44,9 @@ is_free None = true
 is_free (Some inside) = false
 
 -- the choice, where it is one that the packet's flow may have and no flow of the protocol has it
-abbrev pub taken : Nat → List Flow → Packet → Option Pair → Option Pair
-taken nat flows packet None = None
-taken nat flows packet (Some port) =
+abbrev pub free_choice : Nat → List Flow → Packet → Option Pair → Option Pair
+free_choice nat flows packet None = None
+free_choice nat flows packet (Some port) =
     if nat.allows packet.source port && is_free (owner flows packet.proto port) then Some port else None
 
 -- the verdict of a packet on its way out, by its flow's pair and the choice that can be taken
@@ -69,14 +69,16 @@ in_verdict None = Dropped NoFlow
 abbrev pub nat_verdict : Nat → List Flow → NatArrival → Verdict
 nat_verdict nat flows arrival =
     let packet = arrival.packet in
-    if nat.is_out packet then out_verdict (pair_of flows packet.proto packet.source) (taken nat flows packet arrival.choice)
+    if nat.is_out packet then out_verdict (pair_of flows packet.proto packet.source)
+        (free_choice nat flows packet arrival.choice)
     else (if nat.is_in packet then in_verdict (owner flows packet.proto packet.dest) else Dropped Neither)
 
 -- the flows after it: only a packet on its way out makes one
 abbrev pub nat_next : Nat → List Flow → NatArrival → List Flow
 nat_next nat flows arrival =
     let packet = arrival.packet in
-    if nat.is_out packet then out_next flows packet (pair_of flows packet.proto packet.source) (taken nat flows packet arrival.choice)
+    if nat.is_out packet then out_next flows packet (pair_of flows packet.proto packet.source)
+        (free_choice nat flows packet arrival.choice)
     else flows
 
 abbrev pub nat_box : Nat → Box NatArrival (List Flow)
@@ -97,5 +99,7 @@ flow_at cells proto inside = flow_in (cells (flow_key proto inside))
 
 -- The box has the live flows of the store's map, and what the map has at a flow's key is a flow's record.
 pub record IsSameFlows (flows : List Flow) (cells : Cells) : Type 0 where
-  pub agrees : (proto : Proto) (inside : Pair) → IsPair inside → pair_of flows proto inside ≡ flow_at cells proto inside
-  pub whole : (proto : Proto) (inside : Pair) → IsPair inside → flow_at cells proto inside ≡ None → cells (flow_key proto inside) ≡ None
+  pub agrees : (proto : Proto) (inside : Pair) → IsPair inside
+      → pair_of flows proto inside ≡ flow_at cells proto inside
+  pub whole : (proto : Proto) (inside : Pair) → IsPair inside → flow_at cells proto inside ≡ None
+      → cells (flow_key proto inside) ≡ None

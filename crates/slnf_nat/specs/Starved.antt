@@ -9,7 +9,7 @@ use Rattle.slnf_access.specs.declared.requests.Reply.TheVariants.{Done, Found, A
 use Rattle.slnf_keys.specs.Values.{claim_number}
 use Rattle.slnf_nat.specs.Flights.{Last, Out}
 use Rattle.slnf_nat.specs.Machine.{Nat, port_key, nat_asks}
-use Rattle.slnf_nat.specs.Kept.{Has}
+use Rattle.slnf_nat.specs.Kept.{SomeEntry}
 
 abbrev pub IsFound : Reply → Type 0
 IsFound (Done stamp) = ⊥
@@ -19,9 +19,11 @@ IsFound Absent = ⊥
 -- one of these entries put the packet's claim on this pair, and found it taken
 abbrev pub FoundTaken : ℕ → Packet → List Entry → Pair → Type 0
 FoundTaken incarnation packet es port =
-    Has (λ f. (f.request ≡ PutIfAbsent (record { 0 = port_key packet.proto port }) (record { 0 = claim_number (record { incarnation = incarnation; inside = packet.source }) })) × IsFound f.reply) es
+    SomeEntry (λ f. (f.request ≡ PutIfAbsent (record { 0 = port_key packet.proto port })
+        (record { 0 = claim_number (record { incarnation = incarnation; inside = packet.source }) }))
+        × IsFound f.reply) es
 
--- AllByRecursion pair that the packet's flow may have was found taken, and then the packet's flow was read, and isn't there.
+-- Each pair that the packet's flow may have was found taken, and then the packet's flow was read, and isn't there.
 pub record IsStarved (nat : Nat) (incarnation : ℕ) (packet : Packet) (es : List Entry) : Type 0 where
   pub front : List Entry
   pub last : Entry

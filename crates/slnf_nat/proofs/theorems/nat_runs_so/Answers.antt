@@ -1,5 +1,5 @@
 use Rattle.slnf_nat.proofs.LeaksOfRun.{nat_list_of_image}
-use Rattle.slnf_nat.proofs.Leakless.{nothing_leaks}
+use Rattle.slnf_nat.proofs.NothingLeaks.{nothing_leaks}
 use Rattle.slnf_nat.proofs.theorems.nat_runs_so.Goals as goal
 
 pub returns : goal.returns

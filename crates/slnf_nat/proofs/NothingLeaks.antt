@@ -27,13 +27,15 @@ module _ {G : Type 0} (s : Setting G NatArrival) (into : NatFlight → G) (nat :
   given = nat_list_of_image s into nat begins es is.image is.firsts is.ranges run
 
   -- how the item of a sweep's entry began
-  began : (before later : List Entry) (e : Entry) → es ≡ before ++ e ∷ later → IsSweepAt s es e.incarnation → (proto : Proto) × (port : Pair) × IsPair port × (begins e.incarnation e.item ≡ Flies (Sweep SweepPort proto port (own_base s.eras e.incarnation)))
+  began : (before later : List Entry) (e : Entry) → es ≡ before ++ e ∷ later → IsSweepAt s es e.incarnation
+      → (proto : Proto) × (port : Pair) × IsPair port × (begins e.incarnation e.item ≡ Flies (Sweep SweepPort proto port (own_base s.eras e.incarnation)))
   began before later e split at_sweep = go (first_of r.0) r.1.began
     where
       r : (flight : NatFlight) × IsNextOf nat (own_base s.eras) begins before e flight
       r = next_of nat is_nat (own_base s.eras) begins es given before later e split
 
-      go : (first : NatFlight) → begins e.incarnation e.item ≡ Flies first → (proto : Proto) × (port : Pair) × IsPair port × (begins e.incarnation e.item ≡ Flies (Sweep SweepPort proto port (own_base s.eras e.incarnation)))
+      go : (first : NatFlight) → begins e.incarnation e.item ≡ Flies first
+          → (proto : Proto) × (port : Pair) × IsPair port × (begins e.incarnation e.item ≡ Flies (Sweep SweepPort proto port (own_base s.eras e.incarnation)))
       go (Out state i packet) w = absurd (subst IsSweepItem w (is.sweeps e.incarnation e.item at_sweep))
       go (In state packet) w = absurd (subst IsSweepItem w (is.sweeps e.incarnation e.item at_sweep))
       go (Sweep state proto port base) w =
@@ -41,14 +43,18 @@ module _ {G : Type 0} (s : Setting G NatArrival) (into : NatFlight → G) (nat :
           (proto, port, ranged.0, w ∙ ap (λ f. Flies f) (sym (is.firsts e.incarnation e.item (Sweep state proto port base) w)) ∙ ap (λ b. Flies (Sweep SweepPort proto port b)) ranged.1)
 
   -- An epoch of which no actor is stopped.
-  all_settled : (i t : ℕ) (era : Era) → IsFinishedAt s es i → IsThrough (era_of s.eras) (era_of s.eras i) es t → slice_get s.eras (era_of s.eras i) ≡ Some era → ((j : ℕ) (post : Post) → slice_get (posts_of s es) j ≡ Some post → era_of s.eras j ≡ era_of s.eras i → is_stopped post.actor (part_of j es) ≡ false) → IsOneToOne nat (map_after empty (take t es))
+  all_settled : (i t : ℕ) (era : Era) → IsFinishedAt s es i → IsThrough (era_of s.eras) (era_of s.eras i) es t
+      → slice_get s.eras (era_of s.eras i) ≡ Some era
+      → ((j : ℕ) (post : Post) → slice_get (posts_of s es) j ≡ Some post → era_of s.eras j ≡ era_of s.eras i → is_stopped post.actor (part_of j es) ≡ false)
+      → IsOneToOne nat (map_after empty (take t es))
   all_settled i t era done through own running =
       leaks.one_to_one nat is_nat (own_base s.eras) begins es given t (own_base s.eras i) through.size
       (has_swept s into nat is_nat begins es is.image is.firsts is.ranges run i done.sweep.post done.sweep.posted done.sweep.no_lane done.finished (is.covers i done.sweep) t through)
       (settles s into nat begins es is run (era_of s.eras i) t era own through running)
 
   -- The sweep is the one actor of an epoch that has one.
-  only : (i j : ℕ) (era : Era) → slice_get s.eras (era_of s.eras i) ≡ Some era → length era.actors ≡ 1 → era_of s.eras j ≡ era_of s.eras i → j ≡ i
+  only : (i j : ℕ) (era : Era) → slice_get s.eras (era_of s.eras i) ≡ Some era → length era.actors ≡ 1
+      → era_of s.eras j ≡ era_of s.eras i → j ≡ i
   only i j era own single same =
       let low : own_base s.eras i ≤ i = base_of-below s.eras i in
       let low_j : own_base s.eras j ≤ j = base_of-below s.eras j in
