@@ -28,7 +28,7 @@ IsStampOn es key version = SomeEntry (λ f. (key_of f.request ≡ key) × (f.sta
 abbrev pub IsStampBy : List Entry → ℕ → ℕ → ℕ → ℕ → Type 0
 IsStampBy es key version incarnation item =
     SomeEntry (λ f. (key_of f.request ≡ key) × (f.stamp ≡ version) × (f.incarnation ≡ incarnation)
-        × (f.item ≡ item)) es
+    × (f.item ≡ item)) es
 
 -- The incarnation is at or above the base of each epoch that has an entry so far.
 abbrev pub IsCurrent : (ℕ → ℕ) → List Entry → ℕ → Type 0
@@ -69,7 +69,7 @@ HoldsOut nat base_at es cells i k packet Look = Unit {0}
 HoldsOut nat base_at es cells i k packet (Try place) = place < nat.ports
 HoldsOut nat base_at es cells i k packet (Confirm place version) =
     (place < nat.ports) × (IsCurrent base_at es i → IsOwned es cells i k packet.proto
-        (tried nat packet place) version packet.source)
+    (tried nat packet place) version packet.source)
 HoldsOut nat base_at es cells i k packet (Release place version port) =
     IsCurrent base_at es i → IsOwned es cells i k packet.proto (tried nat packet place) version packet.source
 HoldsOut nat base_at es cells i k packet Last = Unit {0}
@@ -88,7 +88,7 @@ HoldsSweep base_at es cells proto port base (SweepFlow inside version) =
 HoldsSweep base_at es cells proto port base (Remove version) =
     HasSeen base_at es proto port base version
     × ((held : Held) → cells (port_key proto port) ≡ Some held → held.version
-        ≡ version → ((inside : Pair) × IsOldClaim base held inside) × IsUnnamed cells proto port)
+    ≡ version → ((inside : Pair) × IsOldClaim base held inside) × IsUnnamed cells proto port)
 
 abbrev pub Holds : Nat → (ℕ → ℕ) → List Entry → Cells → ℕ → ℕ → NatFlight → Type 0
 Holds nat base_at es cells i k (Out state incarnation packet) = HoldsOut nat base_at es cells i k packet state

@@ -29,7 +29,7 @@ abbrev pub HasSwept : Nat → (ℕ → ℕ → Stand NatFlight) → List Entry �
 HasSwept nat begins es base =
     (proto : Proto) (port : Pair) → IsPair port → nat.has port ≡ true → IsUsed begins proto →
     (i k own : ℕ) × (base ≤ own) × (begins i k ≡ Flies (Sweep SweepPort proto port own))
-        × HasEnded (stand_of (nat_scene nat begins) i k es)
+    × HasEnded (stand_of (nat_scene nat begins) i k es)
 
 -- The item is between its claim and the end of it: it has claimed this port at this stamp, and has yet to confirm or release it.
 abbrev pub Hangs : Nat → Proto → Pair → Pair → ℕ → Stand NatFlight → Type 0
@@ -48,7 +48,7 @@ Hangs nat proto port inside since (Ends end) = ⊥
 abbrev pub IsSettled : Nat → (ℕ → ℕ → Stand NatFlight) → ℕ → List Entry → Type 0
 IsSettled nat begins base es =
     (i k : ℕ) (proto : Proto) (port inside : Pair) (since : ℕ) → base ≤ i → Hangs nat proto port inside since
-        (stand_of (nat_scene nat begins) i k es) → ⊥
+    (stand_of (nat_scene nat begins) i k es) → ⊥
 
 -- an item that is a packet on its way out
 abbrev pub IsOutward : Stand NatFlight → Type 0
@@ -79,14 +79,14 @@ abbrev pub IsBacked : Nat → Cells → Type 0
 IsBacked nat cells =
     (proto : Proto) (inside : Pair) (held : Held) → IsPair inside → cells (flow_key proto inside) ≡ Some held →
     (port : Pair) × (j : ℕ) × (flow_at cells proto inside ≡ Some port) × IsPair port × (nat.has port ≡ true)
-        × HasClaim cells proto port (record { incarnation = j; inside = inside })
+    × HasClaim cells proto port (record { incarnation = j; inside = inside })
 
 -- Claims and live flows correspond one to one.
 pub record IsOneToOne (nat : Nat) (cells : Cells) : Type 0 where
   -- what a port's key has is a claim, whose flow is live with that port
   pub flow : (proto : Proto) (port : Pair) (held : Held) → IsPair port → cells (port_key proto port) ≡ Some held
       → (claim : Claim) × HasClaim cells proto port claim × IsPair claim.inside
-          × (flow_at cells proto claim.inside ≡ Some port)
+      × (flow_at cells proto claim.inside ≡ Some port)
   -- what a flow's key has is a record, whose port has a claim with that flow's inside pair
   pub claim : IsBacked nat cells
   -- and no other port of the protocol has a claim with it
@@ -117,4 +117,4 @@ pub record IsThrough (era : ℕ → ℕ) (number : ℕ) (es : List Entry) (t : �
 abbrev pub IsSweepOf : Nat → (ℕ → ℕ → Stand NatFlight) → ℕ → ℕ → ℕ → Type 0
 IsSweepOf nat begins items i base =
     (proto : Proto) (port : Pair) → IsPair port → nat.has port ≡ true → IsUsed begins proto → (k : ℕ) × (k < items)
-        × (begins i k ≡ Flies (Sweep SweepPort proto port base))
+    × (begins i k ≡ Flies (Sweep SweepPort proto port base))

@@ -60,7 +60,7 @@ pub record LeaksNothing {G A : Type 0} (nat : Nat) (view : Cells → Cells) (s :
   pub settled : (i t : ℕ) (era : Era) → IsFinishedAt s es i → IsThrough (era_of s.eras) (era_of s.eras i) es t
       → slice_get s.eras (era_of s.eras i) ≡ Some era
       → ((j : ℕ) (post : Post) → slice_get (posts_of s es) j ≡ Some post → era_of s.eras j
-          ≡ era_of s.eras i → is_stopped post.actor (part_of j es) ≡ false)
+      ≡ era_of s.eras i → is_stopped post.actor (part_of j es) ≡ false)
       → IsOneToOne nat (view (map_after empty (take t es)))
   -- At every t each live flow's port has a claim with that flow's inside pair.
   pub backed : (t : ℕ) → t ≤ length es → IsBacked nat (view (map_after empty (take t es)))
@@ -68,9 +68,9 @@ pub record LeaksNothing {G A : Type 0} (nat : Nat) (view : Cells → Cells) (s :
   pub careful : (before later : List Entry) (e : Entry) → es ≡ before ++ e ∷ later → IsSweepAt s es e.incarnation
       → (key : ℕ)
       → (view (map_after empty (before ++ e ∷ [])) key ≡ view (map_after empty before) key) ⊎
-          ((proto : Proto) × (port : Pair) × IsPair port × (key ≡ port_key proto port)
-          × IsSweptAway (view (map_after empty before)) (view (map_after empty (before ++ e ∷ []))) proto port
-          (own_base s.eras e.incarnation))
+      ((proto : Proto) × (port : Pair) × IsPair port × (key ≡ port_key proto port)
+      × IsSweptAway (view (map_after empty before)) (view (map_after empty (before ++ e ∷ []))) proto port
+      (own_base s.eras e.incarnation))
   -- So no sweep takes a claim away of its own epoch's instances.
   pub own : (before later : List Entry) (e : Entry) → es ≡ before ++ e ∷ later → IsSweepAt s es e.incarnation
       → (proto : Proto) (port : Pair) (claim : Claim) → HasClaim (view (map_after empty before)) proto port claim

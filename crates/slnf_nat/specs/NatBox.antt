@@ -70,7 +70,7 @@ abbrev pub nat_verdict : Nat → List Flow → NatArrival → Verdict
 nat_verdict nat flows arrival =
     let packet = arrival.packet in
     if nat.is_out packet then out_verdict (pair_of flows packet.proto packet.source)
-        (free_choice nat flows packet arrival.choice)
+    (free_choice nat flows packet arrival.choice)
     else (if nat.is_in packet then in_verdict (owner flows packet.proto packet.dest) else Dropped Neither)
 
 -- the flows after it: only a packet on its way out makes one
@@ -78,7 +78,7 @@ abbrev pub nat_next : Nat → List Flow → NatArrival → List Flow
 nat_next nat flows arrival =
     let packet = arrival.packet in
     if nat.is_out packet then out_next flows packet (pair_of flows packet.proto packet.source)
-        (free_choice nat flows packet arrival.choice)
+    (free_choice nat flows packet arrival.choice)
     else flows
 
 abbrev pub nat_box : Nat → Box NatArrival (List Flow)

@@ -20,8 +20,8 @@ IsFound Absent = ⊥
 abbrev pub FoundTaken : ℕ → Packet → List Entry → Pair → Type 0
 FoundTaken incarnation packet es port =
     SomeEntry (λ f. (f.request ≡ PutIfAbsent (record { 0 = port_key packet.proto port })
-        (record { 0 = claim_number (record { incarnation = incarnation; inside = packet.source }) }))
-        × IsFound f.reply) es
+    (record { 0 = claim_number (record { incarnation = incarnation; inside = packet.source }) }))
+    × IsFound f.reply) es
 
 -- Each pair that the packet's flow may have was found taken, and then the packet's flow was read, and isn't there.
 pub record IsStarved (nat : Nat) (incarnation : ℕ) (packet : Packet) (es : List Entry) : Type 0 where

@@ -1,3 +1,5 @@
+ghost use Rattle.std.specs.Prelude.{◌<◌, ◌^◌};
+
 use crate::{NatFlight, NatFunction};
 use slnf_access::{Entry, Function, Key, ListStore, Reply, Request, Start, Step, Value};
 use slnf_base::{Change, NoMemory, Packet, Pair, Pool, Prefix, Proto, Verdict};
@@ -58,7 +60,9 @@ const FIRST: Value = Value(0xcb00_7101_9c41);
 const SECOND: Value = Value(0xcb00_7101_9c42);
 
 /// How an incarnation's packet begins.
-fn begin(nat: &NatFunction, incarnation: u64, packet: &Packet) -> Step<NatFlight> {
+fn begin(nat: &NatFunction, incarnation: u64, packet: &Packet) -> Step<NatFlight>
+    requires { incarnation < 2 ^ 32 }
+{
     match nat.start(incarnation, 0, packet) {
         Start::Go(flight) => Step::Go(flight),
         Start::Over(reason) => Step::Over(Verdict::Dropped(reason)),
