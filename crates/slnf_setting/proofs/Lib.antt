@@ -25,3 +25,11 @@ pub mod PlanReplies
 pub mod PlanNat
 pub mod Sees
 pub mod Fewness
+pub mod RowLanes
+pub mod LbRow
+pub mod NatRow
+pub mod FwRow
+pub mod LbRows
+pub mod NatRows
+pub mod NatMoreRows
+pub mod FwRows

@@ -1,0 +1,113 @@
+-- More worked runs of a firewall: UDP opened from the outside, refusals, and a reopening by the other side.
+use Rattle.std.proofs.Common.{◌≡◌, ℕ, ◌+◌, ◌*◌, ◌^◌, true, false, None, List, [], ◌∷◌, refl, arith}
+use Rattle.slnf_base.specs.declared.addresses.Pair.{Pair}
+use Rattle.slnf_base.specs.declared.packets.Proto.TheVariants.{Tcp, Udp}
+use Rattle.slnf_base.specs.declared.packets.Change.TheVariants.{Keep}
+use Rattle.slnf_base.specs.declared.packets.Reason.TheVariants.{DeniedRule, DeniedState, NoConn}
+use Rattle.slnf_base.specs.declared.packets.Verdict.TheVariants.{Emit, Dropped}
+use Rattle.slnf_access.specs.declared.requests.Entry.{Entry}
+use Rattle.slnf_access.specs.declared.requests.Key.{Key}
+use Rattle.slnf_access.specs.declared.requests.Value.{Value}
+use Rattle.slnf_access.specs.declared.requests.Request.{Request}
+use Rattle.slnf_access.specs.declared.requests.Reply.{Reply}
+use Rattle.slnf_access.specs.declared.requests.Request.TheVariants.{Read, PutIfAbsent, ReplaceIf}
+use Rattle.slnf_access.specs.declared.requests.Reply.TheVariants.{Done, Found, Absent}
+use Rattle.slnf_keys.specs.Layout.{pair_number, pair_at, pair_of, key_number, single_number}
+use Rattle.slnf_keys.specs.Keys.{conn_key_number}
+use Rattle.slnf_keys.specs.Values.{conn_number, conn_of}
+use Rattle.slnf_fw_table.specs.declared.rules.Rule.{Rule}
+use Rattle.slnf_plan.specs.declared.plan.FunctionPlan.TheVariants.{Firewall}
+use Rattle.slnf_plan.specs.declared.plan.SweepPlan.TheVariants.{No}
+use Rattle.slnf_plan.specs.declared.plan.Plan.{Plan}
+use Rattle.slnf_run.specs.Verdicts.{verdicts_of}
+use Rattle.slnf_run.specs.Scheduled.{usual_way, IsScheduled}
+use Rattle.slnf_setting.proofs.FwRow.{ten, all_out, client, server}
+use Rattle.slnf_flight.specs.declared.lanes.Taken.TheVariants.{Seen}
+use Rattle.slnf_flight.specs.declared.lanes.Lane.{Lane}
+use Rattle.slnf_setting.specs.PlanSetting.{setting_of}
+use Rattle.slnf_setting.proofs.RowLanes.{lane_of}
+
+-- inbound TCP to port 5000, and inbound UDP
+abbrev tcp_in : Rule
+tcp_in = record { permit = true; outbound = false; proto = 6; source = 0; source_bits = 0; dest = 0; dest_bits = 0; low = 5000; high = 5000; source_within = omega arith; source_zeros_after = refl; dest_within = omega arith; dest_zeros_after = refl }
+
+abbrev udp_in : Rule
+udp_in = record { permit = true; outbound = false; proto = 17; source = 0; source_bits = 0; dest = 0; dest_bits = 0; low = 0; high = 65535; source_within = omega arith; source_zeros_after = refl; dest_within = omega arith; dest_zeros_after = refl }
+
+abbrev plan : Plan
+plan = record {
+  function = Firewall ten (all_out ∷ tcp_in ∷ udp_in ∷ []);
+  shards = 1;
+  batch = 1;
+  epochs = record { instances = record { lane = 0; quota = None; stop = None } ∷ []; active = []; sweep = No; schedule = [] } ∷ [];
+  some_shards = omega arith;
+  few_shards = omega arith;
+  some_batch = omega arith;
+  few_batch = omega arith;
+  some_epochs = omega arith;
+  few_epochs = omega arith;
+  function_fits = refl;
+  instances_fit = refl;
+  lanes_apart = refl;
+  places_fit = refl;
+  sweeps_fit = refl;
+  actors_fit = refl;
+}
+
+abbrev other : Pair
+other = record { addr = 167772165; port = 5001 }
+
+-- SYN and RST of the client, SYN of the server (a reopening), SYN+ACK of the client, FIN of the client (no);
+-- UDP in, UDP out on it, UDP out on another (no rule); SYN in to 5001 (no rule), ACK in to 5001 (no connection)
+abbrev lanes : List Lane
+lanes = lane_of (
+    Seen (record { proto = Tcp; source = client; dest = server; flags = 2 })
+    ∷ Seen (record { proto = Tcp; source = client; dest = server; flags = 4 })
+    ∷ Seen (record { proto = Tcp; source = server; dest = client; flags = 2 })
+    ∷ Seen (record { proto = Tcp; source = client; dest = server; flags = 1 })
+    ∷ Seen (record { proto = Tcp; source = client; dest = server; flags = 18 })
+    ∷ Seen (record { proto = Udp; source = server; dest = client; flags = 0 })
+    ∷ Seen (record { proto = Udp; source = client; dest = server; flags = 0 })
+    ∷ Seen (record { proto = Udp; source = other; dest = server; flags = 0 })
+    ∷ Seen (record { proto = Tcp; source = server; dest = other; flags = 2 })
+    ∷ Seen (record { proto = Tcp; source = server; dest = other; flags = 16 })
+    ∷ []) refl ∷ []
+
+-- the digits of the key by hand, inside pair first
+abbrev key : ℕ → Pair → Key
+key proto inside = record { 0 = 3 * 2 ^ 120 + proto * 2 ^ 112 + (3325256711 * 65536 + 80) * 2 ^ 48 +
+    (inside.addr * 65536 + inside.port) }
+
+abbrev val : ℕ → Value
+val n = record { 0 = n }
+
+abbrev en : ℕ → ℕ → Request → Reply → Entry
+en stamp item request reply = record { stamp = stamp; shard = 0; incarnation = 0; item = item; request = request; reply = reply }
+
+abbrev journal : List Entry
+journal =
+    en 1 0 (Read (key 6 client)) Absent
+    ∷ en 2 0 (PutIfAbsent (key 6 client) (val 1)) (Done 2)
+    ∷ en 3 1 (Read (key 6 client)) (Found (val 1) 2)
+    ∷ en 4 1 (ReplaceIf (key 6 client) 2 (val 7)) (Done 4)
+    ∷ en 5 2 (Read (key 6 client)) (Found (val 7) 4)
+    ∷ en 6 2 (ReplaceIf (key 6 client) 4 (val 257)) (Done 6)
+    ∷ en 7 3 (Read (key 6 client)) (Found (val 257) 6)
+    ∷ en 8 4 (Read (key 6 client)) (Found (val 257) 6)
+    ∷ en 9 4 (ReplaceIf (key 6 client) 6 (val 258)) (Done 9)
+    ∷ en 10 5 (Read (key 17 client)) Absent
+    ∷ en 11 5 (PutIfAbsent (key 17 client) (val 264)) (Done 11)
+    ∷ en 12 6 (Read (key 17 client)) (Found (val 264) 11)
+    ∷ en 13 7 (Read (key 17 other)) Absent
+    ∷ en 14 8 (Read (key 6 other)) Absent
+    ∷ en 15 9 (Read (key 6 other)) Absent
+    ∷ []
+
+scheduled : IsScheduled (setting_of plan lanes) (usual_way (setting_of plan lanes).eras) journal
+unfolding conn_key_number single_number key_number pair_number conn_number conn_of pair_of pair_at
+scheduled = record { accesses = journal; made = (15, ((refl, tt), refl)); sorted = refl }
+
+verdicts : verdicts_of (setting_of plan lanes) journal
+    ≡ (Emit Keep ∷ Emit Keep ∷ Emit Keep ∷ Dropped DeniedState ∷ Emit Keep ∷ Emit Keep ∷ Emit Keep ∷ Dropped DeniedRule ∷ Dropped DeniedRule ∷ Dropped NoConn ∷ []) ∷ []
+unfolding conn_key_number single_number key_number pair_number conn_number conn_of pair_of pair_at
+verdicts = refl
