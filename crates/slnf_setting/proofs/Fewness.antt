@@ -36,7 +36,6 @@ use Rattle.slnf_setting.specs.NatPlan.{nat_sweeps}
 use Rattle.slnf_setting.specs.FwPlan.{policy_with, fw_starts}
 use Rattle.slnf_setting.specs.PlanSetting.{fw_own, fw_case, scene_of, sweep_items_of, setting_with, setting_of}
 use Rattle.slnf_setting.specs.Bound.{most_at, others_on, most_in, IsBoundedFor, IsSweep, AreItemsOf}
-use Rattle.slnf_setting.proofs.Fitting.{LanesFit, lanes_fit}
 use Rattle.slnf_setting.proofs.FwWhole.{fw_flights}
 use Rattle.slnf_nat.proofs.PacketEnds.{item_sweeps}
 use Rattle.slnf_setting.proofs.PlanBound.{bounded_by}
@@ -97,7 +96,7 @@ below es a p w m h k l n q =
     let big : 2 ^ 20 * 65539 + 131072000 * 3 < 2 ^ 41 = omega arith in
     omega (arith, h, k, l, n, r, big)
 
-module _ (plan : Plan) (lanes : List Lane) (es : List Entry) (ps ws : List Item) (fit : LanesFit lanes)
+module _ (plan : Plan) (lanes : List Lane) (es : List Entry) (ps ws : List Item)
     (few : total_of (lane_sizes lanes) ≤ 2 ^ 20) (legal : IsLegal es) where
   -- a function without a sweep has as many items as packets
   size : (s : Setting AnyFlight Arrival) → AreItemsOf s ps ws es → s.lanes ≡ lane_sizes lanes → s.sweep_items ≡ 0
@@ -117,7 +116,7 @@ module _ (plan : Plan) (lanes : List Lane) (es : List Entry) (ps ws : List Item)
           (scene_of (Nat pool) plan.epochs lanes) in
       let most : ℕ → ℕ → ℕ = most_in (Nat pool) (scene_of (Nat pool) plan.epochs lanes).begins es in
       let bound : IsBoundedFor (Nat pool) (scene_of (Nat pool) plan.epochs lanes).begins es = bounded_by
-          (Nat pool) plan.epochs lanes es fit legal paths in
+          (Nat pool) plan.epochs lanes es legal paths in
       let high : pool.high < 2 ^ 16 = ltb-true pool.high (2 ^ 16)
           (and_parts (nat_lt pool.outside (2 ^ 32)) (nat_lt pool.high (2 ^ 16)) types).1 in
       let ports : pool.high - pool.low + 1 ≤ 2 ^ 16 = omega arith in
@@ -159,7 +158,7 @@ module _ (plan : Plan) (lanes : List Lane) (es : List Entry) (ps ws : List Item)
       let bound : IsBounded policy (begins_of (eras_of plan.epochs) lanes
           (fw_starts policy) no_sweeps) es = fw_bounded policy
           (begins_of (eras_of plan.epochs) lanes (fw_starts policy) no_sweeps) es
-          (fw_flights policy 1 1 plan.epochs lanes fit) legal own in
+          (fw_flights policy 1 1 plan.epochs lanes) legal own in
       let items : List Item = ps ++ ws in
       let total : length es ≤ length items * (2 + length items) = bound.total items are.of in
       let n : length items ≤ 2 ^ 20 = size s are refl refl in
@@ -173,7 +172,7 @@ module _ (plan : Plan) (lanes : List Lane) (es : List Entry) (ps ws : List Item)
       let most : ℕ → ℕ → ℕ = most_in (Balancer service) (scene_of (Balancer service) plan.epochs lanes).begins es in
       let bound : IsBoundedFor (Balancer service) (scene_of
           (Balancer service) plan.epochs lanes).begins es = bounded_by
-          (Balancer service) plan.epochs lanes es fit legal paths in
+          (Balancer service) plan.epochs lanes es legal paths in
       let items : List Item = ps ++ ws in
       let total : length es ≤ sum_over most items = bound.total items are.of in
       let each : sum_over most items ≤ length items * 3 = sum_most most 3 items
@@ -187,8 +186,7 @@ pub fewer_of_items : (plan : Plan) (lanes : List Lane) (packets sweeps : List It
     → IsTrue (has_types plan.function) → total_of (lane_sizes lanes) ≤ 2 ^ 20 → IsLegal es
     → HasPaths (setting_of plan lanes).scene es → AreItemsOf (setting_of plan lanes) packets sweeps es
     → length es < 2 ^ 41
-fewer_of_items plan lanes ps ws es types few legal paths are = few_by plan lanes es ps ws
-    (lanes_fit lanes) few legal plan.function types paths are
+fewer_of_items plan lanes ps ws es types few legal paths are = few_by plan lanes es ps ws few legal plan.function types paths are
 
 -- and each run is one.
 pub items_of_run : (plan : Plan) (lanes : List Lane) (es : List Entry) → IsRun (setting_of plan lanes) es

@@ -33,7 +33,7 @@ use Rattle.slnf_flight.specs.declared.lanes.Lane.{Lane}
 use Rattle.slnf_setting.specs.Actors.{eras_of}
 use Rattle.slnf_setting.specs.Begins.{begins_of, no_sweeps}
 use Rattle.slnf_run.specs.FunctionLaws.{IsFunction}
-use Rattle.slnf_setting.proofs.Fitting.{LanesFit}
+use Rattle.slnf_setting.proofs.Fitting.{lanes_fit}
 use Rattle.slnf_setting.specs.FwPlan.{fw_starts}
 use Rattle.slnf_setting.specs.PlanSetting.{fw_own, fw_case, setting_with}
 use Rattle.slnf_setting.specs.OneBoxOfPlan.{any_fw_box}
@@ -93,22 +93,21 @@ module _ (policy : Policy) (shards batch : ℕ) (epochs : List Epoch) (lanes : L
   fw_sound apart = function_sound (fw_machine policy) (fw_starts policy) no_sweeps (fw_function policy) shards batch 0
       (eras_of epochs) lanes _ _ _ (lanes_once epochs apart)
 
-  pub fw_flights : LanesFit lanes
-      → BeginsFlights policy (begins_of (eras_of epochs) lanes (fw_starts policy) no_sweeps)
-  fw_flights fit i k first h = go (begun (eras_of epochs) lanes (fw_starts policy) no_sweeps i k first h).how
+  pub fw_flights : BeginsFlights policy (begins_of (eras_of epochs) lanes (fw_starts policy) no_sweeps)
+  fw_flights i k first h = go (begun (eras_of epochs) lanes (fw_starts policy) no_sweeps i k first h).how
     where
       go : IsStarted lanes (fw_starts policy) i k first ⊎ (no_sweeps i k ≡ Flies first) → IsFirst policy first
       go (inl started) =
-          let pairs : IsPair started.packet.source
-              × IsPair started.packet.dest = fit started.lane k started.packet started.captured in
+          let pairs : IsPair started.packet.source × IsPair started.packet.dest =
+          lanes_fit lanes started.lane k started.packet started.captured in
           fw_first policy started.packet first pairs.0 pairs.1 started.start
       go (inr swept) = absurd (cc)
 
-  pub fw_whole : (es : List Entry) → list_all has_lanes_apart epochs ≡ true → LanesFit lanes
-      → IsRun (case_setting fw_case own) es → IsOneBoxWhole (case_setting fw_case own)
-      (any_fw_box policy) IsSameConns es
-  fw_whole es apart fit run =
+  pub fw_whole : (es : List Entry) → list_all has_lanes_apart epochs ≡ true
+      → IsRun (case_setting fw_case own) es
+      → IsOneBoxWhole (case_setting fw_case own) (any_fw_box policy) IsSameConns es
+  fw_whole es apart run =
       case_whole fw_case own es (fw_box policy) IsSameConns (fw_sound apart)
           (case_places fw_case own es (λ es number first verdict. refl)) run
-      (fw_explained policy (begins_of (eras_of epochs) lanes (fw_starts policy) no_sweeps) es (fw_flights fit)
+      (fw_explained policy (begins_of (eras_of epochs) lanes (fw_starts policy) no_sweeps) es fw_flights
           (rises_in_order shards es run.in_order run.in_shards) run.legal (case_paths fw_case own es run))

@@ -37,7 +37,7 @@ use Rattle.slnf_flight.specs.declared.lanes.Lane.{Lane}
 use Rattle.slnf_setting.specs.Actors.{eras_of}
 use Rattle.slnf_setting.specs.Begins.{begins_of, no_sweeps}
 use Rattle.slnf_run.specs.FunctionLaws.{IsFunction}
-use Rattle.slnf_setting.proofs.Fitting.{LanesFit, PairsFit}
+use Rattle.slnf_setting.proofs.Fitting.{lanes_fit, PairsFit}
 use Rattle.slnf_flight.specs.PlanSetting.{backends_at, active_in}
 use Rattle.slnf_setting.specs.LbPlan.{lb_starts}
 use Rattle.slnf_setting.specs.PlanSetting.{lb_own, lb_case, setting_with}
@@ -143,11 +143,11 @@ module _ (service : Service) (shards batch : ℕ) (epochs : List Epoch) (lanes :
   lb_sound apart = function_sound (lb_machine service) (lb_starts service epochs) no_sweeps
       (lb_function service epochs) shards batch 0 (eras_of epochs) lanes _ _ _ (lanes_once epochs apart)
 
-  pub lb_flights : PairsFit service.backends → LanesFit lanes → (i k : ℕ) (first : Flying)
+  pub lb_flights : PairsFit service.backends → (i k : ℕ) (first : Flying)
       → begins_of (eras_of epochs) lanes (lb_starts service epochs) no_sweeps i k ≡ Flies first
       → IsFlight service first
-  lb_flights fits fit i k first h = go (begun (eras_of epochs) lanes
-      (lb_starts service epochs) no_sweeps i k first h).how
+  lb_flights fits i k first h =
+      go (begun (eras_of epochs) lanes (lb_starts service epochs) no_sweeps i k first h).how
     where
       active : List Pair
       active = active_in service (slice_get epochs (era_of (eras_of epochs) i))
@@ -156,18 +156,19 @@ module _ (service : Service) (shards batch : ℕ) (epochs : List Epoch) (lanes :
           → IsFlight service first
       go (inl started) =
           let packet : Packet = started.packet in
-          let pairs : IsPair packet.source × IsPair packet.dest = fit started.lane k packet started.captured in
+          let pairs : IsPair packet.source × IsPair packet.dest =
+          lanes_fit lanes started.lane k packet started.captured in
           starts_flight service packet (choice_of active i k) first (is_forward service packet)
               (is_return service packet) refl refl pairs.0 pairs.1
-          (choice_fits active (epoch_fits service fits
-              (slice_get epochs (era_of (eras_of epochs) i))) i k) started.start
+          (choice_fits active (epoch_fits service fits (slice_get epochs (era_of (eras_of epochs) i))) i k)
+          started.start
       go (inr swept) = absurd (cc)
 
   pub lb_whole : (es : List Entry) → list_all has_lanes_apart epochs ≡ true → PairsFit service.backends
-      → LanesFit lanes → IsRun (case_setting lb_case own) es → IsOneBoxWhole (case_setting lb_case own)
-      (any_lb_box service) IsSameMap es
-  lb_whole es apart fits fit run =
+      → IsRun (case_setting lb_case own) es
+      → IsOneBoxWhole (case_setting lb_case own) (any_lb_box service) IsSameMap es
+  lb_whole es apart fits run =
       case_whole lb_case own es (lb_box service) IsSameMap (lb_sound apart)
           (case_places lb_case own es (λ es number first verdict. refl)) run
       (lb_explained service (begins_of (eras_of epochs) lanes (lb_starts service epochs) no_sweeps) es
-          (lb_flights fits fit) run.legal (case_paths lb_case own es run))
+          (lb_flights fits) run.legal (case_paths lb_case own es run))

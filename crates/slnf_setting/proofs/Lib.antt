@@ -1,5 +1,6 @@
 pub mod LanesApart
 pub mod Fitting
+pub mod PlanFits
 pub mod AtActor
 pub mod Beginning
 pub mod Begun

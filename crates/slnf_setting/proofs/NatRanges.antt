@@ -14,7 +14,9 @@ use Rattle.slnf_nat.specs.Given.{IsRanged}
 use Rattle.slnf_flight.specs.declared.lanes.Lane.{Lane}
 use Rattle.slnf_setting.specs.Actors.{eras_of}
 use Rattle.slnf_setting.specs.Begins.{begins_of}
-use Rattle.slnf_setting.proofs.Fitting.{LanesFit}
+use Rattle.slnf_plan.specs.declared.plan.FunctionPlan.TheVariants.{Nat}
+use Rattle.slnf_setting.proofs.Fitting.{lanes_fit}
+use Rattle.slnf_setting.proofs.PlanFits.{PlanFits, pool_fits}
 use Rattle.slnf_nat.specs.Pools.{IsPool, port_count, nat_of, nat_starts, pool_port, sweep_item}
 use Rattle.slnf_setting.specs.NatPlan.{nat_sweeps}
 use Rattle.slnf_nat.proofs.PoolPairs.{port_fits}
@@ -60,21 +62,23 @@ module _ (pool : Pool) (epochs : List Epoch) (lanes : List Lane) where
       go (inr swept) = item_flies (λ f. first_of f ≡ f) pool (own_base (eras_of epochs) i) k first swept (λ w. refl)
           (λ w. refl)
 
-  pub nat_ranges : list_all has_instances epochs ≡ true → length epochs ≤ 1000 → IsPool pool → LanesFit lanes
-      → (i k : ℕ) (first : NatFlight) → begins i k ≡ Flies first → IsRanged (nat_of pool)
-      (own_base (eras_of epochs)) i first
-  nat_ranges instances few types fit i k first h = go r.how
+  pub nat_ranges : PlanFits (Nat pool) epochs → (i k : ℕ) (first : NatFlight) → begins i k ≡ Flies first
+      → IsRanged (nat_of pool) (own_base (eras_of epochs)) i first
+  nat_ranges fits i k first h = go r.how
     where
+      types : IsPool pool
+      types = pool_fits pool epochs fits
+
       r : IsBegun (eras_of epochs) lanes (nat_starts pool) (nat_sweeps pool (eras_of epochs)) i k first
       r = begun (eras_of epochs) lanes (nat_starts pool) (nat_sweeps pool (eras_of epochs)) i k first h
 
       go : IsStarted lanes (nat_starts pool) i k first ⊎ (nat_sweeps pool (eras_of epochs) i k ≡ Flies first)
           → IsRanged (nat_of pool) (own_base (eras_of epochs)) i first
       go (inl started) =
-          let pairs : IsPair started.packet.source
-              × IsPair started.packet.dest = fit started.lane k started.packet started.captured in
+          let pairs : IsPair started.packet.source × IsPair started.packet.dest =
+          lanes_fit lanes started.lane k started.packet started.captured in
           starts_as (IsRanged (nat_of pool) (own_base (eras_of epochs)) i) pool i k started.packet first started.start
-              (λ w. (refl, incarnation_fits epochs i r.actor instances few r.at, pairs.0, w)) (λ w v. (pairs.1, w, v))
+              (λ w. (refl, incarnation_fits epochs i r.actor fits.instances fits.few r.at, pairs.0, w)) (λ w v. (pairs.1, w, v))
       go (inr swept) =
           item_flies (IsRanged (nat_of pool) (own_base (eras_of epochs)) i) pool
               (own_base (eras_of epochs) i) k first swept

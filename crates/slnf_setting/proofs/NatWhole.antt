@@ -25,8 +25,9 @@ use Rattle.slnf_setting.specs.Actors.{eras_of}
 use Rattle.slnf_setting.specs.Flights.{AnyFlight, NatFlies}
 use Rattle.slnf_run.specs.Cases.{case_scene, case_setting}
 use Rattle.slnf_setting.specs.Begins.{begins_of}
-use Rattle.slnf_setting.proofs.Fitting.{LanesFit}
-use Rattle.slnf_nat.specs.Pools.{IsPool, port_count, nat_of, nat_starts}
+use Rattle.slnf_plan.specs.declared.plan.FunctionPlan.TheVariants.{Nat}
+use Rattle.slnf_setting.proofs.PlanFits.{PlanFits, plan_is_nat}
+use Rattle.slnf_nat.specs.Pools.{port_count, nat_of, nat_starts}
 use Rattle.slnf_setting.specs.NatPlan.{nat_sweeps}
 use Rattle.slnf_setting.specs.PlanSetting.{nat_own, nat_case, nat_arrival_of, setting_with}
 use Rattle.slnf_setting.specs.OneBoxOfPlan.{any_nat_box}
@@ -35,19 +36,10 @@ use Rattle.slnf_run.proofs.Cases.{scene_image}
 use Rattle.slnf_setting.proofs.LanesApart.{lanes_once}
 use Rattle.slnf_setting.proofs.Sounding.{function_sound}
 use Rattle.slnf_run.proofs.WholeCases.{case_whole}
-use Rattle.slnf_nat.proofs.PoolPairs.{pool_is_nat}
 use Rattle.slnf_nat.proofs.PacketEnds.{nat_function}
 use Rattle.slnf_setting.proofs.NatRanges.{nat_firsts, nat_ranges}
 use Rattle.slnf_setting.proofs.NatSweeps.{sweep_covers, sweep_alone}
 use Rattle.slnf_setting.proofs.NatPlaces.{nat_places}
-
--- What a NAT's plan and its lanes keep, by their types.
-pub record NatFits (pool : Pool) (epochs : List Epoch) (lanes : List Lane) : Type 0 where
-  pub types : IsPool pool
-  pub instances : list_all has_instances epochs ≡ true
-  pub few : length epochs ≤ 1000
-  pub apart : list_all has_lanes_apart epochs ≡ true
-  pub packets : LanesFit lanes
 
 module _ (pool : Pool) (shards batch : ℕ) (epochs : List Epoch) (lanes : List Lane) where
   abbrev pub begins : ℕ → ℕ → Stand NatFlight
@@ -68,37 +60,37 @@ module _ (pool : Pool) (shards batch : ℕ) (epochs : List Epoch) (lanes : List 
   pub nat_image : IsSceneImage NatFlies (nat_scene (nat_of pool) begins) seen.scene
   nat_image = scene_image nat_case (nat_own pool epochs lanes)
 
-  pub nat_list : NatFits pool epochs lanes → (es : List Entry) → IsRun (case_setting nat_case own) es
+  pub nat_list : PlanFits (Nat pool) epochs → (es : List Entry) → IsRun (case_setting nat_case own) es
       → IsNatList (nat_of pool) (own_base (eras_of epochs)) begins es
   nat_list fits es run =
       nat_list_of_image seen NatFlies (nat_of pool) begins es nat_image (nat_firsts pool epochs lanes)
-      (nat_ranges pool epochs lanes fits.instances fits.few fits.types fits.packets)
+      (nat_ranges pool epochs lanes fits)
       (run_viewed nat_arrival_of (case_setting nat_case own) es run)
 
-  pub nat_whole : NatFits pool epochs lanes → (es : List Entry) → IsRun (case_setting nat_case own) es
+  pub nat_whole : PlanFits (Nat pool) epochs → (es : List Entry) → IsRun (case_setting nat_case own) es
       → IsOneBoxWhole (case_setting nat_case own) (any_nat_box (nat_of pool)) IsSameFlows es
   nat_whole fits es run =
       case_whole nat_case own es (nat_box (nat_of pool)) IsSameFlows (nat_sound fits.apart)
           (nat_places (nat_of pool) begins es) run
-      (nat_explained (nat_of pool) (pool_is_nat pool fits.types) (own_base (eras_of epochs)) begins es
+      (nat_explained (nat_of pool) (plan_is_nat pool epochs fits) (own_base (eras_of epochs)) begins es
           (nat_list fits es run))
 
   -- the setting is one of which nothing leaks
-  pub nat_setting_is : NatFits pool epochs lanes → (es : List Entry)
+  pub nat_setting_is : PlanFits (Nat pool) epochs → (es : List Entry)
       → IsNatSetting seen NatFlies (nat_of pool) begins es
   nat_setting_is fits es = record {
     image = nat_image;
     firsts = nat_firsts pool epochs lanes;
-    ranges = nat_ranges pool epochs lanes fits.instances fits.few fits.types fits.packets;
+    ranges = nat_ranges pool epochs lanes fits;
     covers = λ i sweep. sweep_covers pool (eras_of epochs) lanes i sweep.post.actor
         (actor_at seen es i sweep.post sweep.posted) sweep.no_lane;
     sweeps = λ i k sweep. sweep_alone pool (eras_of epochs) lanes i sweep.post.actor
         (actor_at seen es i sweep.post sweep.posted) sweep.no_lane k;
   }
 
-  pub nat_leaks_nothing : NatFits pool epochs lanes → (es : List Entry) → IsRun (case_setting nat_case own) es
+  pub nat_leaks_nothing : PlanFits (Nat pool) epochs → (es : List Entry) → IsRun (case_setting nat_case own) es
       → LeaksNothing (nat_of pool) (λ cells. cells) (case_setting nat_case own) es
   nat_leaks_nothing fits es run =
       leaks_viewed nat_arrival_of (case_setting nat_case own) (nat_of pool) es
-      (nothing_leaks seen NatFlies (nat_of pool) (pool_is_nat pool fits.types) begins es (nat_setting_is fits es)
+      (nothing_leaks seen NatFlies (nat_of pool) (plan_is_nat pool epochs fits) begins es (nat_setting_is fits es)
       (run_viewed nat_arrival_of (case_setting nat_case own) es run))

@@ -24,7 +24,6 @@ use Rattle.slnf_setting.specs.LbPlan.{lb_starts}
 use Rattle.slnf_setting.specs.PlanSetting.{nat_own, fw_own, lb_own, nat_case, fw_case, lb_case, scene_of, setting_with, setting_of}
 use Rattle.slnf_setting.specs.Bound.{most_at, others_on, most_in, ShowsFailures, IsBoundedFor, most_of, AreOf}
 use Rattle.slnf_setting.specs.Flights.{AnyFlight, FwFlies, NatFlies, LbFlies}
-use Rattle.slnf_setting.proofs.Fitting.{LanesFit, lanes_fit}
 use Rattle.slnf_run.proofs.WholeCases.{own_paths}
 use Rattle.slnf_setting.proofs.FwWhole.{fw_flights}
 use Rattle.slnf_setting.proofs.Shortness.{total_by, ended_short, le_trans}
@@ -77,9 +76,9 @@ fw_short : (policy : Policy) (others : Packet → ℕ) (st : Stand FwFlying) (ow
 fw_short policy others (Flies flight) own path h = h flight refl
 fw_short policy others (Ends end) own path h = ended_short (fw_machine policy) end own path
 
-pub bounded_by : (f : FunctionPlan) (epochs : List Epoch) (lanes : List Lane) (es : List Entry) → LanesFit lanes
+pub bounded_by : (f : FunctionPlan) (epochs : List Epoch) (lanes : List Lane) (es : List Entry)
     → IsLegal es → HasPaths (scene_of f epochs lanes) es → IsBoundedFor f (scene_of f epochs lanes).begins es
-bounded_by (Nat pool) epochs lanes es fit legal paths =
+bounded_by (Nat pool) epochs lanes es legal paths =
     bounded (Nat pool) (scene_of (Nat pool) epochs lanes).begins es tt (λ i k.
     nat_short (nat_of pool) (let some : 0 < pool.high - pool.low + 1 = omega arith in some)
         (others_on (Nat pool) es i k) (begins_of (eras_of epochs) lanes (nat_starts pool)
@@ -92,19 +91,19 @@ bounded_by (Nat pool) epochs lanes es fit legal paths =
     (each_of_all (λ i k. most_in (Nat pool) (scene_of (Nat pool) epochs lanes).begins es i k ≤ port_count pool + 3)
         (λ i k. nat_no_more pool ((scene_of (Nat pool) epochs lanes).begins i k)
         (no_strays_by (Nat pool) epochs lanes i k [])) items)))
-bounded_by (Firewall inside rules) epochs lanes es fit legal paths =
+bounded_by (Firewall inside rules) epochs lanes es legal paths =
     let policy = policy_with inside rules in
     let own = own_paths fw_case (setting_with 1 1 epochs lanes 0 (fw_own policy epochs lanes)) es paths in
     bounded (Firewall inside rules) (scene_of (Firewall inside rules) epochs lanes).begins es
     (fw_failures policy (begins_of (eras_of epochs) lanes (fw_starts policy) no_sweeps) es
-        (fw_flights policy 1 1 epochs lanes fit) legal own) (λ i k.
+        (fw_flights policy 1 1 epochs lanes) legal own) (λ i k.
     fw_short policy (others_on (Firewall inside rules) es i k)
         (begins_of (eras_of epochs) lanes (fw_starts policy) no_sweeps i k) (own_of i k es) (own i k) (λ first w.
     (fw_bounded policy (begins_of (eras_of epochs) lanes (fw_starts policy) no_sweeps) es
-        (fw_flights policy 1 1 epochs lanes fit) legal own).each i k first w))
+        (fw_flights policy 1 1 epochs lanes) legal own).each i k first w))
     (λ items among total. (fw_bounded policy (begins_of (eras_of epochs) lanes (fw_starts policy) no_sweeps) es
-        (fw_flights policy 1 1 epochs lanes fit) legal own).total items among)
-bounded_by (Balancer service) epochs lanes es fit legal paths =
+        (fw_flights policy 1 1 epochs lanes) legal own).total items among)
+bounded_by (Balancer service) epochs lanes es legal paths =
     bounded (Balancer service) (scene_of (Balancer service) epochs lanes).begins es tt (λ i k.
     lb_short service 0 (others_on (Balancer service) es i k)
         (begins_of (eras_of epochs) lanes (lb_starts service epochs) no_sweeps i k) (own_of i k es)
@@ -120,5 +119,4 @@ bounded_by (Balancer service) epochs lanes es fit legal paths =
 -- The accesses of a plan's items are bounded, in each legal list of their paths.
 pub bounded_of_plan : (plan : Plan) (lanes : List Lane) (es : List Entry) → IsLegal es
     → HasPaths (setting_of plan lanes).scene es → IsBoundedFor plan.function (setting_of plan lanes).scene.begins es
-bounded_of_plan plan lanes es legal paths = bounded_by plan.function plan.epochs lanes es
-    (lanes_fit lanes) legal paths
+bounded_of_plan plan lanes es legal paths = bounded_by plan.function plan.epochs lanes es legal paths

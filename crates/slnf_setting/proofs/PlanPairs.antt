@@ -18,46 +18,35 @@ use Rattle.slnf_nat.specs.Pools.{nat_of}
 use Rattle.slnf_setting.specs.LbPlan.{lb_starts}
 use Rattle.slnf_setting.specs.PlanSetting.{lb_own, lb_case, scene_of, sweep_items_of, setting_with, setting_of}
 use Rattle.slnf_setting.specs.Pairs.{KeepsPairs}
-use Rattle.slnf_setting.proofs.Fitting.{LanesFit, lanes_fit}
-use Rattle.slnf_nat.proofs.PoolPairs.{pool_is_nat}
 use Rattle.slnf_lb.proofs.PinsStay.{pins_stay}
 use Rattle.slnf_run.proofs.WholeCases.{case_paths}
-use Rattle.slnf_setting.proofs.NatWhole.{NatFits, begins, nat_list}
-use Rattle.slnf_setting.proofs.PlanWhole.{pool_types}
+use Rattle.slnf_setting.proofs.NatWhole.{begins, nat_list}
+use Rattle.slnf_setting.proofs.PlanFits.{PlanFits, plan_fits, plan_is_nat}
 use Rattle.slnf_run.specs.Setting.{own_base}
 use Rattle.slnf_nat.proofs.LiveFlows.{flows_apart}
 use Rattle.slnf_setting.proofs.FlowsStay.{flows_stay}
 
-module _ (shards batch : ℕ) (epochs : List Epoch) (lanes : List Lane) where
-  pairs_by : (f : FunctionPlan) (es : List Entry) → list_all has_lanes_apart epochs ≡ true
-      → list_all has_instances epochs ≡ true → length epochs ≤ 1000 → has_types f ≡ true → LanesFit lanes
-      → IsRun (setting_with shards batch epochs lanes (sweep_items_of f) (scene_of f epochs lanes)) es
-      → KeepsPairs f es
-  pairs_by (Nat pool) es apart instances few fits fit run =
-      let types = pool_types pool fits in
-      let own : NatFits pool epochs lanes = record {
-        types = types;
-        instances = instances;
-        few = few;
-        apart = apart;
-        packets = fit;
-      } in
-      let given : IsNatList (nat_of pool) (own_base (eras_of epochs))
-          (begins pool shards batch epochs lanes) es = nat_list pool shards batch epochs lanes own es run in
-      record {
-        apart = flows_apart (nat_of pool) (pool_is_nat pool types) (own_base (eras_of epochs))
-            (begins pool shards batch epochs lanes) es given;
-        stay = flows_stay (nat_of pool) (pool_is_nat pool types) (own_base (eras_of epochs))
-            (begins pool shards batch epochs lanes) es given;
-      }
-  pairs_by (Firewall inside rules) es apart instances few fits fit run = tt
-  pairs_by (Balancer service) es apart instances few fits fit run =
-      pins_stay service (begins_of (eras_of epochs) lanes (lb_starts service epochs) no_sweeps) es run.legal
-      (case_paths lb_case (setting_with shards batch epochs lanes 0 (lb_own service epochs lanes)) es run)
+pairs_by : (shards batch : ℕ) (epochs : List Epoch) (lanes : List Lane) (f : FunctionPlan) (es : List Entry) →
+    PlanFits f epochs →
+    IsRun (setting_with shards batch epochs lanes (sweep_items_of f) (scene_of f epochs lanes)) es → KeepsPairs f es
+pairs_by shards batch epochs lanes (Nat pool) es fits run =
+    let given : IsNatList (nat_of pool) (own_base (eras_of epochs)) (begins pool shards batch epochs lanes) es =
+    nat_list pool shards batch epochs lanes fits es run in
+    record {
+      apart =
+          flows_apart (nat_of pool) (plan_is_nat pool epochs fits) (own_base (eras_of epochs))
+          (begins pool shards batch epochs lanes) es given;
+      stay =
+          flows_stay (nat_of pool) (plan_is_nat pool epochs fits) (own_base (eras_of epochs))
+          (begins pool shards batch epochs lanes) es given;
+    }
+pairs_by shards batch epochs lanes (Firewall inside rules) es fits run = tt
+pairs_by shards batch epochs lanes (Balancer service) es fits run =
+    pins_stay service (begins_of (eras_of epochs) lanes (lb_starts service epochs) no_sweeps) es run.legal
+    (case_paths lb_case (setting_with shards batch epochs lanes 0 (lb_own service epochs lanes)) es run)
 
 -- No two live flows share an outside pair, and no flow's outside pair and no client's backend changes.
-pub keeps_pairs_of_plan : (plan : Plan) (lanes : List Lane) (es : List Entry) → IsTrue (has_types plan.function)
-    → IsRun (setting_of plan lanes) es → KeepsPairs plan.function es
-keeps_pairs_of_plan plan lanes es fits run =
-    pairs_by plan.shards plan.batch plan.epochs lanes plan.function es
-    plan.lanes_apart plan.instances_fit plan.few_epochs fits (lanes_fit lanes) run
+pub keeps_pairs_of_plan : (plan : Plan) (lanes : List Lane) (es : List Entry) → IsTrue (has_types plan.function) →
+    IsRun (setting_of plan lanes) es → KeepsPairs plan.function es
+keeps_pairs_of_plan plan lanes es types run =
+    pairs_by plan.shards plan.batch plan.epochs lanes plan.function es (plan_fits plan types) run

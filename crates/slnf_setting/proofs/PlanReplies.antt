@@ -41,12 +41,11 @@ use Rattle.slnf_setting.specs.FwPlan.{policy_with}
 use Rattle.slnf_setting.specs.PlanSetting.{scene_of, sweep_items_of, setting_with, setting_of}
 use Rattle.slnf_setting.specs.OneBoxOfPlan.{any_fw_box, any_lb_box}
 use Rattle.slnf_setting.specs.Replies.{NoneIll}
-use Rattle.slnf_setting.proofs.Fitting.{LanesFit, lanes_fit, pairs_fit}
-use Rattle.slnf_nat.proofs.PoolPairs.{pool_is_nat}
-use Rattle.slnf_setting.proofs.NatWhole.{NatFits, begins, nat_list}
+use Rattle.slnf_setting.proofs.Fitting.{pairs_fit}
+use Rattle.slnf_setting.proofs.NatWhole.{begins, nat_list}
 use Rattle.slnf_setting.proofs.FwWhole.{fw_whole}
 use Rattle.slnf_setting.proofs.LbWhole.{lb_whole}
-use Rattle.slnf_setting.proofs.PlanWhole.{pool_types}
+use Rattle.slnf_setting.proofs.PlanFits.{PlanFits, plan_fits, plan_is_nat}
 use Rattle.slnf_run.specs.Setting.{own_base}
 use Rattle.slnf_nat.proofs.LiveFlows.{flows_well, claims_well}
 
@@ -94,45 +93,40 @@ pin_well pins cells proto client held same fits at ill =
     let no : Some held ≡ None = sym at ∙ same.whole proto client fits none in
     cc
 
-module _ (shards batch : ℕ) (epochs : List Epoch) (lanes : List Lane) where
-  well_by : (f : FunctionPlan) (es : List Entry) → list_all has_lanes_apart epochs ≡ true
-      → list_all has_instances epochs ≡ true → length epochs ≤ 1000 → has_types f ≡ true → LanesFit lanes
-      → IsRun (setting_with shards batch epochs lanes (sweep_items_of f) (scene_of f epochs lanes)) es → NoneIll f es
-  well_by (Nat pool) es apart instances few types fit run = λ before later e value version split reply.
-      let ranges = pool_types pool types in
-      let own : NatFits pool epochs lanes = record {
-        types = ranges;
-        instances = instances;
-        few = few;
-        apart = apart;
-        packets = fit;
-      } in
-      let given = nat_list pool shards batch epochs lanes own es run in (
-        λ proto inside fits key ill. flows_well (nat_of pool) (pool_is_nat pool ranges) (own_base (eras_of epochs))
-            (begins pool shards batch epochs lanes) es given before later e value version proto inside split reply key fits ill,
-        λ proto port fits key ill. claims_well (nat_of pool) (pool_is_nat pool ranges) (own_base (eras_of epochs))
-            (begins pool shards batch epochs lanes) es given before later e value version proto port split reply key fits ill,
-      )
-  well_by (Firewall inside rules) es apart instances few types fit run = λ before later e value version split reply conn fits key ill.
-      let s = scene_of (Firewall inside rules) epochs lanes in
-      let r = there es before later e value version run.legal split reply in
-      conn_well (content_after s (any_fw_box (policy_with inside rules)) es (length before))
-          (map_after empty before) conn r.0
-      (same_before s (any_fw_box (policy_with inside rules)) IsSameConns es before later e
-          (fw_whole (policy_with inside rules) shards batch epochs lanes es apart fit run).one_box.explained split)
-      fits (ap (map_after empty before) (sym key) ∙ r.1) (ap (λ (v : Value). tracked_of v.0) r.2 ∙ ill)
-  well_by (Balancer service) es apart instances few types fit run = λ before later e value version split reply proto client fits key ill.
-      let s = scene_of (Balancer service) epochs lanes in
-      let r = there es before later e value version run.legal split reply in
-      pin_well (content_after s (any_lb_box service) es (length before)) (map_after empty before) proto client r.0
-      (same_before s (any_lb_box service) IsSameMap es before later e
-          (lb_whole service shards batch epochs lanes es apart
-          (pairs_fit service.backends types) fit run).one_box.explained split)
-      fits (ap (map_after empty before) (sym key) ∙ r.1) (ap (λ (v : Value). pin_of v.0) r.2 ∙ ill)
+well_by : (shards batch : ℕ) (epochs : List Epoch) (lanes : List Lane) (f : FunctionPlan) (es : List Entry) →
+    PlanFits f epochs →
+    IsRun (setting_with shards batch epochs lanes (sweep_items_of f) (scene_of f epochs lanes)) es → NoneIll f es
+well_by shards batch epochs lanes (Nat pool) es fits run = λ before later e value version split reply. (
+  λ proto inside in_range key ill.
+      flows_well (nat_of pool) (plan_is_nat pool epochs fits) (own_base (eras_of epochs))
+      (begins pool shards batch epochs lanes) es (nat_list pool shards batch epochs lanes fits es run)
+      before later e value version proto inside split reply key in_range ill,
+  λ proto port in_range key ill.
+      claims_well (nat_of pool) (plan_is_nat pool epochs fits) (own_base (eras_of epochs))
+      (begins pool shards batch epochs lanes) es (nat_list pool shards batch epochs lanes fits es run)
+      before later e value version proto port split reply key in_range ill,
+)
+well_by shards batch epochs lanes (Firewall inside rules) es fits run =
+    λ before later e value version split reply conn in_range key ill.
+    let s = scene_of (Firewall inside rules) epochs lanes in
+    let policy = policy_with inside rules in
+    let r = there es before later e value version run.legal split reply in
+    conn_well (content_after s (any_fw_box policy) es (length before)) (map_after empty before) conn r.0
+    (same_before s (any_fw_box policy) IsSameConns es before later e
+    (fw_whole policy shards batch epochs lanes es fits.apart run).one_box.explained split)
+    in_range (ap (map_after empty before) (sym key) ∙ r.1) (ap (λ (v : Value). tracked_of v.0) r.2 ∙ ill)
+well_by shards batch epochs lanes (Balancer service) es fits run =
+    λ before later e value version split reply proto client in_range key ill.
+    let s = scene_of (Balancer service) epochs lanes in
+    let r = there es before later e value version run.legal split reply in
+    pin_well (content_after s (any_lb_box service) es (length before)) (map_after empty before) proto client r.0
+    (same_before s (any_lb_box service) IsSameMap es before later e
+    (lb_whole service shards batch epochs lanes es fits.apart
+    (pairs_fit service.backends fits.types) run).one_box.explained split)
+    in_range (ap (map_after empty before) (sym key) ∙ r.1) (ap (λ (v : Value). pin_of v.0) r.2 ∙ ill)
 
 -- No reply is ill in a run of a plan.
-pub none_ill_of_plan : (plan : Plan) (lanes : List Lane) (es : List Entry) → IsTrue (has_types plan.function)
-    → IsRun (setting_of plan lanes) es → NoneIll plan.function es
+pub none_ill_of_plan : (plan : Plan) (lanes : List Lane) (es : List Entry) → IsTrue (has_types plan.function) →
+    IsRun (setting_of plan lanes) es → NoneIll plan.function es
 none_ill_of_plan plan lanes es types run =
-    well_by plan.shards plan.batch plan.epochs lanes plan.function es
-    plan.lanes_apart plan.instances_fit plan.few_epochs types (lanes_fit lanes) run
+    well_by plan.shards plan.batch plan.epochs lanes plan.function es (plan_fits plan types) run

@@ -1,7 +1,6 @@
 -- One ordinary box explains each run of a plan, with all that is written.
-use Rattle.std.proofs.Common.{◌≡◌, ℕ, ◌^◌, ◌<◌, ◌≤◌, true, nat_lt, List, length, sym, subst}
+use Rattle.std.proofs.Common.{◌≡◌, ℕ, true, List, sym, subst}
 use Rattle.std.specs.Prelude.{IsTrue}
-use Rattle.std.proofs.lemmas.Bool.{and_parts, ltb-true}
 use Rattle.std.specs.List.{list_all}
 use Rattle.slnf_base.specs.declared.plans.Pool.{Pool}
 use Rattle.slnf_access.specs.declared.requests.Entry.{Entry}
@@ -10,7 +9,7 @@ use Rattle.slnf_plan.specs.declared.plan.FunctionPlan.{FunctionPlan}
 use Rattle.slnf_plan.specs.declared.plan.FunctionPlan.TheVariants.{Nat, Firewall, Balancer}
 use Rattle.slnf_plan.specs.declared.plan.Epoch.{Epoch}
 use Rattle.slnf_plan.specs.declared.plan.Plan.{Plan}
-use Rattle.slnf_plan.specs.Ranges.{has_instances, has_lanes_apart}
+use Rattle.slnf_plan.specs.Ranges.{has_lanes_apart}
 use Rattle.slnf_run.specs.Scene.{stand_of}
 use Rattle.slnf_run.specs.Images.{stand_as}
 use Rattle.slnf_run.specs.Setting.{Setting}
@@ -19,11 +18,12 @@ use Rattle.slnf_run.specs.OneBox.{IsSound}
 use Rattle.slnf_nat.specs.LeaksNothing.{LeaksNothing}
 use Rattle.slnf_flight.specs.declared.lanes.Lane.{Lane}
 use Rattle.slnf_setting.specs.Flights.{AnyFlight, NatFlies, FwFlies, LbFlies, Arrival}
-use Rattle.slnf_nat.specs.Pools.{IsPool, nat_of}
+use Rattle.slnf_nat.specs.Pools.{nat_of}
 use Rattle.slnf_setting.specs.FwPlan.{policy_with}
 use Rattle.slnf_setting.specs.PlanSetting.{nat_own, fw_own, lb_own, nat_case, fw_case, lb_case, scene_of, sweep_items_of, setting_with, setting_of}
 use Rattle.slnf_setting.specs.Fits.{has_types}
-use Rattle.slnf_setting.proofs.Fitting.{LanesFit, lanes_fit, pairs_fit}
+use Rattle.slnf_setting.proofs.Fitting.{pairs_fit}
+use Rattle.slnf_setting.proofs.PlanFits.{PlanFits, plan_fits}
 use Rattle.slnf_setting.specs.OneBoxOfPlan.{IsOneBoxBy, IsOneBoxOfPlan}
 use Rattle.slnf_setting.specs.OwnFlights.{IsFlightOf, IsStandOf}
 use Rattle.slnf_run.proofs.CaseStands.{case_stand}
@@ -32,75 +32,64 @@ use Rattle.slnf_setting.proofs.NatWhole.{nat_sound, nat_whole, nat_leaks_nothing
 use Rattle.slnf_setting.proofs.FwWhole.{fw_sound, fw_whole}
 use Rattle.slnf_setting.proofs.LbWhole.{lb_sound, lb_whole}
 
--- the types of a pool
-pub pool_types : (pool : Pool) → has_types (Nat pool) ≡ true → IsPool pool
-pool_types pool h =
-    let parts : (nat_lt pool.outside (2 ^ 32) ≡ true) × (nat_lt pool.high (2 ^ 16) ≡ true) =
-    and_parts (nat_lt pool.outside (2 ^ 32)) (nat_lt pool.high (2 ^ 16)) h in
-    record {
-      outside_fits = ltb-true pool.outside (2 ^ 32) parts.0;
-      high_fits = ltb-true pool.high (2 ^ 16) parts.1;
-    }
-
-module _ (shards batch : ℕ) (epochs : List Epoch) (lanes : List Lane) where
-  sound_by : (f : FunctionPlan) → list_all has_lanes_apart epochs ≡ true
-      → IsSound (setting_with shards batch epochs lanes (sweep_items_of f) (scene_of f epochs lanes))
-  sound_by (Nat pool) apart = case_sound nat_case (setting_with shards batch epochs lanes (sweep_items_of (Nat pool))
-      (nat_own pool epochs lanes)) (nat_sound pool shards batch epochs lanes apart)
-  sound_by (Firewall inside rules) apart = case_sound fw_case
-      (setting_with shards batch epochs lanes 0 (fw_own (policy_with inside rules) epochs lanes))
-      (fw_sound (policy_with inside rules) shards batch epochs lanes apart)
-  sound_by (Balancer service) apart = case_sound lb_case
-      (setting_with shards batch epochs lanes 0 (lb_own service epochs lanes))
-      (lb_sound service shards batch epochs lanes apart)
-
-  whole_by : (f : FunctionPlan) (es : List Entry) → list_all has_lanes_apart epochs ≡ true
-      → list_all has_instances epochs ≡ true → length epochs ≤ 1000 → has_types f ≡ true → LanesFit lanes
-      → IsRun (setting_with shards batch epochs lanes (sweep_items_of f) (scene_of f epochs lanes)) es
-      → IsOneBoxBy f (setting_with shards batch epochs lanes (sweep_items_of f) (scene_of f epochs lanes)) es
-  whole_by (Nat pool) es apart instances few fits fit run =
-      nat_whole pool shards batch epochs lanes (record {
-        types = pool_types pool fits;
-        instances = instances;
-        few = few;
-        apart = apart;
-        packets = fit;
-      }) es run
-  whole_by (Firewall inside rules) es apart instances few fits fit run = fw_whole
-      (policy_with inside rules) shards batch epochs lanes es apart fit run
-  whole_by (Balancer service) es apart instances few fits fit run = lb_whole service shards batch epochs lanes es apart (pairs_fit service.backends fits) fit run
+-- The setting of each function with these epochs and lanes is sound.
+sound_by : (shards batch : ℕ) (epochs : List Epoch) (lanes : List Lane) (f : FunctionPlan) →
+    list_all has_lanes_apart epochs ≡ true →
+    IsSound (setting_with shards batch epochs lanes (sweep_items_of f) (scene_of f epochs lanes))
+sound_by shards batch epochs lanes (Nat pool) apart =
+    case_sound nat_case
+    (setting_with shards batch epochs lanes (sweep_items_of (Nat pool)) (nat_own pool epochs lanes))
+    (nat_sound pool shards batch epochs lanes apart)
+sound_by shards batch epochs lanes (Firewall inside rules) apart =
+    case_sound fw_case
+    (setting_with shards batch epochs lanes 0 (fw_own (policy_with inside rules) epochs lanes))
+    (fw_sound (policy_with inside rules) shards batch epochs lanes apart)
+sound_by shards batch epochs lanes (Balancer service) apart =
+    case_sound lb_case (setting_with shards batch epochs lanes 0 (lb_own service epochs lanes))
+    (lb_sound service shards batch epochs lanes apart)
 
 -- The setting of each plan is sound.
 pub plan_sound : (plan : Plan) (lanes : List Lane) → IsSound (setting_of plan lanes)
 plan_sound plan lanes = sound_by plan.shards plan.batch plan.epochs lanes plan.function plan.lanes_apart
 
+-- One ordinary box explains each run of such a setting.
+whole_by : (shards batch : ℕ) (epochs : List Epoch) (lanes : List Lane) (f : FunctionPlan) (es : List Entry) →
+    PlanFits f epochs →
+    (let s : Setting AnyFlight Arrival =
+      setting_with shards batch epochs lanes (sweep_items_of f) (scene_of f epochs lanes) in
+    IsRun s es → IsOneBoxBy f s es)
+whole_by shards batch epochs lanes (Nat pool) es fits run = nat_whole pool shards batch epochs lanes fits es run
+whole_by shards batch epochs lanes (Firewall inside rules) es fits run =
+    fw_whole (policy_with inside rules) shards batch epochs lanes es fits.apart run
+whole_by shards batch epochs lanes (Balancer service) es fits run =
+    lb_whole service shards batch epochs lanes es fits.apart (pairs_fit service.backends fits.types) run
+
 -- One ordinary box explains each run of a plan, with all that is written.
-pub one_box_of_plan : (plan : Plan) (lanes : List Lane) (es : List Entry) → IsTrue (has_types plan.function)
-    → IsRun (setting_of plan lanes) es → IsOneBoxOfPlan plan lanes es
-one_box_of_plan plan lanes es fits run =
-    whole_by plan.shards plan.batch plan.epochs lanes plan.function es
-    plan.lanes_apart plan.instances_fit plan.few_epochs fits (lanes_fit lanes) run
+pub one_box_of_plan : (plan : Plan) (lanes : List Lane) (es : List Entry) → IsTrue (has_types plan.function) →
+    IsRun (setting_of plan lanes) es → IsOneBoxOfPlan plan lanes es
+one_box_of_plan plan lanes es types run =
+    whole_by plan.shards plan.batch plan.epochs lanes plan.function es (plan_fits plan types) run
 
 -- Nothing leaks in a run of a NAT's plan.
-leaks_by : (plan : Plan) (lanes : List Lane) (es : List Entry) (f : FunctionPlan) (pool : Pool) → f ≡ Nat pool
-    → has_types f ≡ true → LanesFit lanes
-    → (let s : Setting AnyFlight Arrival = setting_with plan.shards plan.batch plan.epochs lanes (sweep_items_of f)
-        (scene_of f plan.epochs lanes) in IsRun s es → LeaksNothing (nat_of pool) (λ cells. cells) s es)
-leaks_by plan lanes es (Nat own) pool is fits fit run =
+leaks_by : (plan : Plan) (lanes : List Lane) (es : List Entry) (f : FunctionPlan) (pool : Pool) → f ≡ Nat pool →
+    PlanFits f plan.epochs →
+    (let s : Setting AnyFlight Arrival =
+      setting_with plan.shards plan.batch plan.epochs lanes (sweep_items_of f) (scene_of f plan.epochs lanes) in
+    IsRun s es → LeaksNothing (nat_of pool) (λ cells. cells) s es)
+leaks_by plan lanes es (Nat own) pool is fits run =
     let same : own ≡ pool = cc in
     subst (λ p. LeaksNothing (nat_of p) (λ cells. cells)
-        (setting_with plan.shards plan.batch plan.epochs lanes (sweep_items_of (Nat own))
-        (scene_of (Nat own) plan.epochs lanes)) es) same
-    (nat_leaks_nothing own plan.shards plan.batch plan.epochs lanes
-        (record { types = pool_types own fits; instances = plan.instances_fit; few = plan.few_epochs; apart = plan.lanes_apart; packets = fit }) es run)
-leaks_by plan lanes es (Firewall inside rules) pool is fits fit run = absurd (cc)
-leaks_by plan lanes es (Balancer service) pool is fits fit run = absurd (cc)
+    (setting_with plan.shards plan.batch plan.epochs lanes (sweep_items_of (Nat own))
+    (scene_of (Nat own) plan.epochs lanes)) es) same
+    (nat_leaks_nothing own plan.shards plan.batch plan.epochs lanes fits es run)
+leaks_by plan lanes es (Firewall inside rules) pool is fits run = absurd (cc)
+leaks_by plan lanes es (Balancer service) pool is fits run = absurd (cc)
 
-pub nothing_leaks_of_plan : (plan : Plan) (lanes : List Lane) (es : List Entry) (pool : Pool)
-    → plan.function ≡ Nat pool → IsTrue (has_types plan.function) → IsRun (setting_of plan lanes) es
-    → LeaksNothing (nat_of pool) (λ cells. cells) (setting_of plan lanes) es
-nothing_leaks_of_plan plan lanes es pool is fits run = leaks_by plan lanes es plan.function pool is fits
-    (lanes_fit lanes) run
+pub nothing_leaks_of_plan : (plan : Plan) (lanes : List Lane) (es : List Entry) (pool : Pool) →
+    plan.function ≡ Nat pool → IsTrue (has_types plan.function) → IsRun (setting_of plan lanes) es →
+    LeaksNothing (nat_of pool) (λ cells. cells) (setting_of plan lanes) es
+nothing_leaks_of_plan plan lanes es pool is types run =
+    leaks_by plan lanes es plan.function pool is (plan_fits plan types) run
 
 -- Each item flies as a flight of the plan's function.
 function_stand : {F : Type 0} (f : FunctionPlan) (into : F → AnyFlight) → ((flight : F) → IsFlightOf f (into flight))
@@ -114,8 +103,8 @@ no_strays_by (Nat pool) epochs lanes i k es =
     subst (IsStandOf (Nat pool)) (sym (case_stand nat_case (nat_own pool epochs lanes) i k es))
         (function_stand (Nat pool) NatFlies (λ flight. tt) (stand_of (nat_own pool epochs lanes) i k es))
 no_strays_by (Firewall inside rules) epochs lanes i k es =
-    subst (IsStandOf (Firewall inside rules)) (sym
-        (case_stand fw_case (fw_own (policy_with inside rules) epochs lanes) i k es))
+    subst (IsStandOf (Firewall inside rules))
+    (sym (case_stand fw_case (fw_own (policy_with inside rules) epochs lanes) i k es))
         (function_stand (Firewall inside rules) FwFlies (λ flight. tt)
         (stand_of (fw_own (policy_with inside rules) epochs lanes) i k es))
 no_strays_by (Balancer service) epochs lanes i k es =
