@@ -23,8 +23,6 @@ use Rattle.slnf_plan.specs.declared.plan.Plan.{Plan}
 use Rattle.slnf_run.specs.Run.{IsRun}
 use Rattle.slnf_run.specs.Verdicts.{verdicts_of}
 use Rattle.slnf_run.specs.Scheduled.{usual_way, IsScheduled}
-use Rattle.slnf_run.proofs.Ways.{usual_lawful}
-use Rattle.slnf_run.proofs.Scheduling.{scheduled_is_run}
 use Rattle.slnf_fw_table.specs.declared.connections.State.TheVariants.{SynSent, SynAcked, Opened, FinByOpener, FinByOther, BothFin}
 use Rattle.slnf_fw_table.specs.declared.connections.State.{State}
 use Rattle.slnf_fw.specs.declared.flights.FwState.TheVariants.{Look}
@@ -34,7 +32,8 @@ use Rattle.slnf_flight.specs.declared.lanes.Lane.{Lane}
 use Rattle.slnf_setting.specs.Flights.{FwFlies}
 use Rattle.slnf_setting.specs.FwPlan.{policy_with}
 use Rattle.slnf_setting.specs.PlanSetting.{setting_of}
-use Rattle.slnf_setting.proofs.RowLanes.{lane_of}
+use Rattle.slnf_setting.proofs.PlanSchedules.{run_of_schedule}
+use Rattle.slnf_setting.proofs.RowParts.{lane_of, epoch_of, on_lane}
 use Rattle.slnf_setting.specs.OneBoxOfPlan.{IsOneBoxOfPlan}
 use Rattle.slnf_setting.proofs.PlanWhole.{one_box_of_plan}
 
@@ -65,12 +64,7 @@ plan = record {
   function = Firewall ten (all_out ∷ []);
   shards = 1;
   batch = 1;
-  epochs = record {
-    instances = record { lane = 0; quota = None; stop = None } ∷ record { lane = 1; quota = None; stop = None } ∷ [];
-    active = [];
-    sweep = No;
-    schedule = 0 ∷ 0 ∷ 1 ∷ 1 ∷ 0 ∷ 0 ∷ 0 ∷ 1 ∷ 0 ∷ 1 ∷ 1 ∷ [];
-  } ∷ [];
+  epochs = epoch_of (on_lane 0 ∷ on_lane 1 ∷ []) [] No (0 ∷ 0 ∷ 1 ∷ 1 ∷ 0 ∷ 0 ∷ 0 ∷ 1 ∷ 0 ∷ 1 ∷ 1 ∷ []) ∷ [];
   some_shards = omega arith;
   few_shards = omega arith;
   some_batch = omega arith;
@@ -159,8 +153,7 @@ unfolding conn_key_number single_number key_number pair_number conn_number conn_
 verdicts = refl
 
 pub run : IsRun (setting_of plan lanes) journal
-run = scheduled_is_run (setting_of plan lanes) (usual_way (setting_of plan lanes).eras)
-    (usual_lawful (setting_of plan lanes).eras) journal scheduled (omega arith)
+run = run_of_schedule plan lanes journal scheduled (omega arith)
 
 pub boxed : IsOneBoxOfPlan plan lanes journal
 boxed = one_box_of_plan plan lanes journal refl run

@@ -25,7 +25,7 @@ use Rattle.slnf_setting.proofs.FwRow.{ten, all_out, client, server}
 use Rattle.slnf_flight.specs.declared.lanes.Taken.TheVariants.{Seen}
 use Rattle.slnf_flight.specs.declared.lanes.Lane.{Lane}
 use Rattle.slnf_setting.specs.PlanSetting.{setting_of}
-use Rattle.slnf_setting.proofs.RowLanes.{lane_of}
+use Rattle.slnf_setting.proofs.RowParts.{lane_of, epoch_of, on_lane}
 
 -- inbound TCP to port 5000, and inbound UDP
 abbrev tcp_in : Rule
@@ -39,7 +39,7 @@ plan = record {
   function = Firewall ten (all_out ∷ tcp_in ∷ udp_in ∷ []);
   shards = 1;
   batch = 1;
-  epochs = record { instances = record { lane = 0; quota = None; stop = None } ∷ []; active = []; sweep = No; schedule = [] } ∷ [];
+  epochs = epoch_of (on_lane 0 ∷ []) [] No [] ∷ [];
   some_shards = omega arith;
   few_shards = omega arith;
   some_batch = omega arith;

@@ -16,15 +16,14 @@ use Rattle.slnf_plan.specs.declared.plan.SweepPlan.TheVariants.{No}
 use Rattle.slnf_plan.specs.declared.plan.Plan.{Plan}
 use Rattle.slnf_run.specs.Verdicts.{verdicts_of}
 use Rattle.slnf_run.specs.Scheduled.{usual_way, IsScheduled}
-use Rattle.slnf_run.proofs.Ways.{usual_lawful}
-use Rattle.slnf_run.proofs.Scheduling.{scheduled_is_run}
 use Rattle.slnf_lb.specs.Machine.{pin_key, pin_value}
 use Rattle.slnf_setting.proofs.LbRow.{front, client, first, second, service}
 use Rattle.slnf_flight.specs.declared.lanes.Taken.{Taken}
 use Rattle.slnf_flight.specs.declared.lanes.Taken.TheVariants.{Seen}
 use Rattle.slnf_flight.specs.declared.lanes.Lane.{Lane}
 use Rattle.slnf_setting.specs.PlanSetting.{setting_of}
-use Rattle.slnf_setting.proofs.RowLanes.{lane_of}
+use Rattle.slnf_setting.proofs.PlanSchedules.{run_of_schedule}
+use Rattle.slnf_setting.proofs.RowParts.{lane_of, epoch_of, on_lane, with_quota}
 use Rattle.slnf_setting.specs.OneBoxOfPlan.{IsOneBoxOfPlan}
 use Rattle.slnf_setting.proofs.PlanWhole.{one_box_of_plan}
 
@@ -44,7 +43,7 @@ return_plan = record {
   function = Balancer service;
   shards = 1;
   batch = 1;
-  epochs = record { instances = record { lane = 0; quota = None; stop = None } ∷ []; active = 0 ∷ 1 ∷ []; sweep = No; schedule = [] } ∷ [];
+  epochs = epoch_of (on_lane 0 ∷ []) (0 ∷ 1 ∷ []) No [] ∷ [];
   some_shards = omega arith;
   few_shards = omega arith;
   some_batch = omega arith;
@@ -87,8 +86,7 @@ return_verdicts = refl
 
 pub return_boxed : IsOneBoxOfPlan return_plan return_lanes return_journal
 return_boxed = one_box_of_plan return_plan return_lanes return_journal refl
-    (scheduled_is_run (setting_of return_plan return_lanes) (usual_way (setting_of return_plan return_lanes).eras)
-    (usual_lawful (setting_of return_plan return_lanes).eras) return_journal return_scheduled (omega arith))
+    (run_of_schedule return_plan return_lanes return_journal return_scheduled (omega arith))
 
 -- ---- batches of three packets, of which none has a first key twice
 
@@ -97,7 +95,7 @@ batch_plan = record {
   function = Balancer service;
   shards = 1;
   batch = 3;
-  epochs = record { instances = record { lane = 0; quota = None; stop = None } ∷ []; active = 0 ∷ 1 ∷ []; sweep = No; schedule = [] } ∷ [];
+  epochs = epoch_of (on_lane 0 ∷ []) (0 ∷ 1 ∷ []) No [] ∷ [];
   some_shards = omega arith;
   few_shards = omega arith;
   some_batch = omega arith;
@@ -140,8 +138,7 @@ batch_verdicts = refl
 
 pub batch_boxed : IsOneBoxOfPlan batch_plan batch_lanes batch_journal
 batch_boxed = one_box_of_plan batch_plan batch_lanes batch_journal refl
-    (scheduled_is_run (setting_of batch_plan batch_lanes) (usual_way (setting_of batch_plan batch_lanes).eras)
-    (usual_lawful (setting_of batch_plan batch_lanes).eras) batch_journal batch_scheduled (omega arith))
+    (run_of_schedule batch_plan batch_lanes batch_journal batch_scheduled (omega arith))
 
 -- ---- two shards
 
@@ -150,7 +147,7 @@ shard_plan = record {
   function = Balancer service;
   shards = 2;
   batch = 1;
-  epochs = record { instances = record { lane = 0; quota = None; stop = None } ∷ record { lane = 1; quota = None; stop = None } ∷ []; active = 0 ∷ 1 ∷ []; sweep = No; schedule = 0 ∷ 1 ∷ 0 ∷ 1 ∷ [] } ∷ [];
+  epochs = epoch_of (on_lane 0 ∷ on_lane 1 ∷ []) (0 ∷ 1 ∷ []) No (0 ∷ 1 ∷ 0 ∷ 1 ∷ []) ∷ [];
   some_shards = omega arith;
   few_shards = omega arith;
   some_batch = omega arith;
@@ -191,8 +188,7 @@ shard_verdicts = refl
 
 pub shard_boxed : IsOneBoxOfPlan shard_plan shard_lanes shard_journal
 shard_boxed = one_box_of_plan shard_plan shard_lanes shard_journal refl
-    (scheduled_is_run (setting_of shard_plan shard_lanes) (usual_way (setting_of shard_plan shard_lanes).eras)
-    (usual_lawful (setting_of shard_plan shard_lanes).eras) shard_journal shard_scheduled (omega arith))
+    (run_of_schedule shard_plan shard_lanes shard_journal shard_scheduled (omega arith))
 
 -- ---- quotas: three packets in the first epoch, one in the next, and one is left
 
@@ -201,7 +197,7 @@ drain_plan = record {
   function = Balancer service;
   shards = 1;
   batch = 1;
-  epochs = record { instances = record { lane = 0; quota = Some 3; stop = None } ∷ []; active = 0 ∷ 1 ∷ []; sweep = No; schedule = [] } ∷ record { instances = record { lane = 0; quota = Some 1; stop = None } ∷ []; active = 0 ∷ 1 ∷ []; sweep = No; schedule = [] } ∷ [];
+  epochs = epoch_of (with_quota 0 3 ∷ []) (0 ∷ 1 ∷ []) No [] ∷ epoch_of (with_quota 0 1 ∷ []) (0 ∷ 1 ∷ []) No [] ∷ [];
   some_shards = omega arith;
   few_shards = omega arith;
   some_batch = omega arith;
@@ -245,5 +241,4 @@ drain_verdicts = refl
 
 pub drain_boxed : IsOneBoxOfPlan drain_plan drain_lanes drain_journal
 drain_boxed = one_box_of_plan drain_plan drain_lanes drain_journal refl
-    (scheduled_is_run (setting_of drain_plan drain_lanes) (usual_way (setting_of drain_plan drain_lanes).eras)
-    (usual_lawful (setting_of drain_plan drain_lanes).eras) drain_journal drain_scheduled (omega arith))
+    (run_of_schedule drain_plan drain_lanes drain_journal drain_scheduled (omega arith))

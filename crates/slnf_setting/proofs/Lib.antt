@@ -23,10 +23,11 @@ pub mod NatShort
 pub mod PlanBound
 pub mod PlanBegins
 pub mod PlanReplies
+pub mod PlanSchedules
 pub mod PlanNat
 pub mod Sees
 pub mod Fewness
-pub mod RowLanes
+pub mod RowParts
 pub mod LbRow
 pub mod NatRow
 pub mod FwRow

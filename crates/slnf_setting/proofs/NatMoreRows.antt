@@ -15,8 +15,6 @@ use Rattle.slnf_plan.specs.declared.plan.SweepPlan.TheVariants.{No}
 use Rattle.slnf_plan.specs.declared.plan.Plan.{Plan}
 use Rattle.slnf_run.specs.Verdicts.{verdicts_of}
 use Rattle.slnf_run.specs.Scheduled.{usual_way, IsScheduled}
-use Rattle.slnf_run.proofs.Ways.{usual_lawful}
-use Rattle.slnf_run.proofs.Scheduling.{scheduled_is_run}
 use Rattle.slnf_run.specs.Visits.{visits_of}
 use Rattle.slnf_nat.specs.NatBox.{nat_box, Flow, NatArrival}
 use Rattle.slnf_setting.proofs.NatRow.{five, packet_f, port, flow, tcp, claim, to}
@@ -25,7 +23,8 @@ use Rattle.slnf_flight.specs.declared.lanes.Taken.TheVariants.{Seen}
 use Rattle.slnf_flight.specs.declared.lanes.Lane.{Lane}
 use Rattle.slnf_nat.specs.Pools.{nat_of}
 use Rattle.slnf_setting.specs.PlanSetting.{setting_of}
-use Rattle.slnf_setting.proofs.RowLanes.{lane_of}
+use Rattle.slnf_setting.proofs.PlanSchedules.{run_of_schedule}
+use Rattle.slnf_setting.proofs.RowParts.{lane_of, epoch_of, on_lane, with_stop}
 use Rattle.slnf_setting.specs.OneBoxOfPlan.{IsOneBoxOfPlan}
 use Rattle.slnf_setting.proofs.PlanWhole.{one_box_of_plan}
 
@@ -34,7 +33,7 @@ race_plan = record {
   function = Nat wide;
   shards = 1;
   batch = 1;
-  epochs = record { instances = record { lane = 0; quota = None; stop = None } ∷ record { lane = 1; quota = None; stop = None } ∷ []; active = []; sweep = No; schedule = 0 ∷ 1 ∷ 0 ∷ 1 ∷ 0 ∷ 1 ∷ 1 ∷ 1 ∷ [] } ∷ [];
+  epochs = epoch_of (on_lane 0 ∷ on_lane 1 ∷ []) [] No (0 ∷ 1 ∷ 0 ∷ 1 ∷ 0 ∷ 1 ∷ 1 ∷ 1 ∷ []) ∷ [];
   some_shards = omega arith;
   few_shards = omega arith;
   some_batch = omega arith;
@@ -81,8 +80,7 @@ race_verdicts = refl
 
 pub race_boxed : IsOneBoxOfPlan race_plan race_lanes race_journal
 race_boxed = one_box_of_plan race_plan race_lanes race_journal refl
-    (scheduled_is_run (setting_of race_plan race_lanes) (usual_way (setting_of race_plan race_lanes).eras)
-    (usual_lawful (setting_of race_plan race_lanes).eras) race_journal race_scheduled (omega arith))
+    (run_of_schedule race_plan race_lanes race_journal race_scheduled (omega arith))
 
 race_place : visits_of (setting_of race_plan race_lanes).scene race_journal 6
     (record {
@@ -105,7 +103,7 @@ record_plan = record {
   function = Nat wide;
   shards = 1;
   batch = 1;
-  epochs = record { instances = record { lane = 0; quota = None; stop = Some 3 } ∷ []; active = []; sweep = No; schedule = [] } ∷ record { instances = record { lane = 0; quota = None; stop = None } ∷ []; active = []; sweep = No; schedule = [] } ∷ [];
+  epochs = epoch_of (with_stop 0 3 ∷ []) [] No [] ∷ epoch_of (on_lane 0 ∷ []) [] No [] ∷ [];
   some_shards = omega arith;
   few_shards = omega arith;
   some_batch = omega arith;
@@ -147,8 +145,7 @@ record_verdicts = refl
 
 pub record_boxed : IsOneBoxOfPlan record_plan record_lanes record_journal
 record_boxed = one_box_of_plan record_plan record_lanes record_journal refl
-    (scheduled_is_run (setting_of record_plan record_lanes) (usual_way (setting_of record_plan record_lanes).eras)
-    (usual_lawful (setting_of record_plan record_lanes).eras) record_journal record_scheduled (omega arith))
+    (run_of_schedule record_plan record_lanes record_journal record_scheduled (omega arith))
 
 record_place : visits_of (setting_of record_plan record_lanes).scene record_journal 2
     (record {
@@ -171,7 +168,7 @@ claimed_plan = record {
   function = Nat wide;
   shards = 1;
   batch = 1;
-  epochs = record { instances = record { lane = 0; quota = None; stop = Some 2 } ∷ []; active = []; sweep = No; schedule = [] } ∷ [];
+  epochs = epoch_of (with_stop 0 2 ∷ []) [] No [] ∷ [];
   some_shards = omega arith;
   few_shards = omega arith;
   some_batch = omega arith;
@@ -207,15 +204,14 @@ claimed_verdicts = refl
 
 pub claimed_boxed : IsOneBoxOfPlan claimed_plan claimed_lanes claimed_journal
 claimed_boxed = one_box_of_plan claimed_plan claimed_lanes claimed_journal refl
-    (scheduled_is_run (setting_of claimed_plan claimed_lanes) (usual_way (setting_of claimed_plan claimed_lanes).eras)
-    (usual_lawful (setting_of claimed_plan claimed_lanes).eras) claimed_journal claimed_scheduled (omega arith))
+    (run_of_schedule claimed_plan claimed_lanes claimed_journal claimed_scheduled (omega arith))
 
 abbrev hang_plan : Plan
 hang_plan = record {
   function = Nat wide;
   shards = 1;
   batch = 1;
-  epochs = record { instances = record { lane = 0; quota = None; stop = None } ∷ record { lane = 1; quota = None; stop = Some 4 } ∷ []; active = []; sweep = No; schedule = 0 ∷ 1 ∷ 0 ∷ 1 ∷ 0 ∷ 1 ∷ 1 ∷ 1 ∷ [] } ∷ [];
+  epochs = epoch_of (on_lane 0 ∷ with_stop 1 4 ∷ []) [] No (0 ∷ 1 ∷ 0 ∷ 1 ∷ 0 ∷ 1 ∷ 1 ∷ 1 ∷ []) ∷ [];
   some_shards = omega arith;
   few_shards = omega arith;
   some_batch = omega arith;
@@ -261,15 +257,14 @@ hang_verdicts = refl
 
 pub hang_boxed : IsOneBoxOfPlan hang_plan hang_lanes hang_journal
 hang_boxed = one_box_of_plan hang_plan hang_lanes hang_journal refl
-    (scheduled_is_run (setting_of hang_plan hang_lanes) (usual_way (setting_of hang_plan hang_lanes).eras)
-    (usual_lawful (setting_of hang_plan hang_lanes).eras) hang_journal hang_scheduled (omega arith))
+    (run_of_schedule hang_plan hang_lanes hang_journal hang_scheduled (omega arith))
 
 abbrev twice_plan : Plan
 twice_plan = record {
   function = Nat narrow;
   shards = 1;
   batch = 1;
-  epochs = record { instances = record { lane = 0; quota = None; stop = None } ∷ record { lane = 1; quota = None; stop = None } ∷ []; active = []; sweep = No; schedule = 0 ∷ 1 ∷ 0 ∷ 1 ∷ 0 ∷ 1 ∷ [] } ∷ [];
+  epochs = epoch_of (on_lane 0 ∷ on_lane 1 ∷ []) [] No (0 ∷ 1 ∷ 0 ∷ 1 ∷ 0 ∷ 1 ∷ []) ∷ [];
   some_shards = omega arith;
   few_shards = omega arith;
   some_batch = omega arith;
@@ -313,15 +308,14 @@ twice_verdicts = refl
 
 pub twice_boxed : IsOneBoxOfPlan twice_plan twice_lanes twice_journal
 twice_boxed = one_box_of_plan twice_plan twice_lanes twice_journal refl
-    (scheduled_is_run (setting_of twice_plan twice_lanes) (usual_way (setting_of twice_plan twice_lanes).eras)
-    (usual_lawful (setting_of twice_plan twice_lanes).eras) twice_journal twice_scheduled (omega arith))
+    (run_of_schedule twice_plan twice_lanes twice_journal twice_scheduled (omega arith))
 
 abbrev starved_plan : Plan
 starved_plan = record {
   function = Nat narrow;
   shards = 1;
   batch = 1;
-  epochs = record { instances = record { lane = 0; quota = None; stop = None } ∷ record { lane = 1; quota = None; stop = None } ∷ []; active = []; sweep = No; schedule = 0 ∷ 1 ∷ 0 ∷ 1 ∷ 1 ∷ 0 ∷ [] } ∷ [];
+  epochs = epoch_of (on_lane 0 ∷ on_lane 1 ∷ []) [] No (0 ∷ 1 ∷ 0 ∷ 1 ∷ 1 ∷ 0 ∷ []) ∷ [];
   some_shards = omega arith;
   few_shards = omega arith;
   some_batch = omega arith;
@@ -364,15 +358,14 @@ starved_verdicts = refl
 
 pub starved_boxed : IsOneBoxOfPlan starved_plan starved_lanes starved_journal
 starved_boxed = one_box_of_plan starved_plan starved_lanes starved_journal refl
-    (scheduled_is_run (setting_of starved_plan starved_lanes) (usual_way (setting_of starved_plan starved_lanes).eras)
-    (usual_lawful (setting_of starved_plan starved_lanes).eras) starved_journal starved_scheduled (omega arith))
+    (run_of_schedule starved_plan starved_lanes starved_journal starved_scheduled (omega arith))
 
 abbrev empty_plan : Plan
 empty_plan = record {
   function = Nat narrow;
   shards = 1;
   batch = 1;
-  epochs = record { instances = []; active = []; sweep = No; schedule = [] } ∷ record { instances = record { lane = 5; quota = None; stop = None } ∷ []; active = []; sweep = No; schedule = 0 ∷ 0 ∷ [] } ∷ [];
+  epochs = epoch_of [] [] No [] ∷ epoch_of (on_lane 5 ∷ []) [] No (0 ∷ 0 ∷ []) ∷ [];
   some_shards = omega arith;
   few_shards = omega arith;
   some_batch = omega arith;
@@ -405,8 +398,7 @@ empty_verdicts = refl
 
 pub empty_boxed : IsOneBoxOfPlan empty_plan empty_lanes empty_journal
 empty_boxed = one_box_of_plan empty_plan empty_lanes empty_journal refl
-    (scheduled_is_run (setting_of empty_plan empty_lanes) (usual_way (setting_of empty_plan empty_lanes).eras)
-    (usual_lawful (setting_of empty_plan empty_lanes).eras) empty_journal empty_scheduled (omega arith))
+    (run_of_schedule empty_plan empty_lanes empty_journal empty_scheduled (omega arith))
 
 -- ---- a packet from the inside to the outside address: whatever the box keeps, it is dropped, and changes nothing
 

@@ -22,8 +22,6 @@ use Rattle.slnf_plan.specs.declared.plan.Plan.{Plan}
 use Rattle.slnf_run.specs.Run.{IsRun}
 use Rattle.slnf_run.specs.Verdicts.{verdicts_of}
 use Rattle.slnf_run.specs.Scheduled.{usual_way, IsScheduled}
-use Rattle.slnf_run.proofs.Ways.{usual_lawful}
-use Rattle.slnf_run.proofs.Scheduling.{scheduled_is_run}
 use Rattle.slnf_nat.specs.declared.flights.OutState.TheVariants.{Look}
 use Rattle.slnf_nat.specs.Flights.{SweepPort, Out, Sweep}
 use Rattle.slnf_nat.specs.Machine.{flow_key, port_key}
@@ -33,7 +31,8 @@ use Rattle.slnf_flight.specs.declared.lanes.Lane.{Lane}
 use Rattle.slnf_setting.specs.Flights.{NatFlies}
 use Rattle.slnf_nat.specs.Pools.{nat_of}
 use Rattle.slnf_setting.specs.PlanSetting.{setting_of}
-use Rattle.slnf_setting.proofs.RowLanes.{lane_of}
+use Rattle.slnf_setting.proofs.PlanSchedules.{run_of_schedule}
+use Rattle.slnf_setting.proofs.RowParts.{lane_of, epoch_of, on_lane, with_stop}
 use Rattle.slnf_setting.specs.OneBoxOfPlan.{IsOneBoxOfPlan}
 use Rattle.slnf_setting.proofs.PlanWhole.{one_box_of_plan, nothing_leaks_of_plan}
 
@@ -54,8 +53,8 @@ plan = record {
   shards = 1;
   batch = 1;
   epochs =
-      record { instances = record { lane = 0; quota = None; stop = Some 2 } ∷ []; active = []; sweep = No; schedule = [] }
-      ∷ record { instances = record { lane = 1; quota = None; stop = None } ∷ []; active = []; sweep = Yes None; schedule = 0 ∷ 0 ∷ 1 ∷ 1 ∷ 1 ∷ 1 ∷ 0 ∷ [] }
+      epoch_of (with_stop 0 2 ∷ []) [] No []
+      ∷ epoch_of (on_lane 1 ∷ []) [] (Yes None) (0 ∷ 0 ∷ 1 ∷ 1 ∷ 1 ∷ 1 ∷ 0 ∷ [])
       ∷ [];
   some_shards = omega arith;
   few_shards = omega arith;
@@ -164,8 +163,7 @@ unfolding flow_key_number port_key_number single_number key_number pair_number f
 verdicts = refl
 
 pub run : IsRun (setting_of plan lanes) journal
-run = scheduled_is_run (setting_of plan lanes) (usual_way (setting_of plan lanes).eras)
-    (usual_lawful (setting_of plan lanes).eras) journal scheduled (omega arith)
+run = run_of_schedule plan lanes journal scheduled (omega arith)
 
 pub boxed : IsOneBoxOfPlan plan lanes journal
 boxed = one_box_of_plan plan lanes journal refl run

@@ -17,8 +17,6 @@ use Rattle.slnf_plan.specs.declared.plan.SweepPlan.TheVariants.{No}
 use Rattle.slnf_plan.specs.declared.plan.Plan.{Plan}
 use Rattle.slnf_run.specs.Verdicts.{verdicts_of}
 use Rattle.slnf_run.specs.Scheduled.{usual_way, IsScheduled}
-use Rattle.slnf_run.proofs.Ways.{usual_lawful}
-use Rattle.slnf_run.proofs.Scheduling.{scheduled_is_run}
 use Rattle.slnf_run.specs.Visits.{visits_of}
 use Rattle.slnf_run.specs.Boxes.{content_after}
 use Rattle.slnf_setting.proofs.NatRow.{ten, outside, five, six, server, packet_f, packet_g, port, flow, tcp, claim, to}
@@ -26,7 +24,8 @@ use Rattle.slnf_flight.specs.declared.lanes.Taken.TheVariants.{Seen}
 use Rattle.slnf_flight.specs.declared.lanes.Lane.{Lane}
 use Rattle.slnf_nat.specs.Pools.{nat_of}
 use Rattle.slnf_setting.specs.PlanSetting.{setting_of}
-use Rattle.slnf_setting.proofs.RowLanes.{lane_of}
+use Rattle.slnf_setting.proofs.PlanSchedules.{run_of_schedule}
+use Rattle.slnf_setting.proofs.RowParts.{lane_of, epoch_of, on_lane}
 use Rattle.slnf_setting.specs.OneBoxOfPlan.{any_nat_box, IsOneBoxOfPlan}
 use Rattle.slnf_setting.proofs.PlanWhole.{one_box_of_plan}
 
@@ -46,7 +45,7 @@ back_plan = record {
   function = Nat wide;
   shards = 1;
   batch = 1;
-  epochs = record { instances = record { lane = 0; quota = None; stop = None } ∷ record { lane = 1; quota = None; stop = None } ∷ []; active = []; sweep = No; schedule = 0 ∷ 0 ∷ 0 ∷ 1 ∷ 1 ∷ [] } ∷ [];
+  epochs = epoch_of (on_lane 0 ∷ on_lane 1 ∷ []) [] No (0 ∷ 0 ∷ 0 ∷ 1 ∷ 1 ∷ []) ∷ [];
   some_shards = omega arith;
   few_shards = omega arith;
   some_batch = omega arith;
@@ -89,8 +88,7 @@ back_verdicts = refl
 
 pub back_boxed : IsOneBoxOfPlan back_plan back_lanes back_journal
 back_boxed = one_box_of_plan back_plan back_lanes back_journal refl
-    (scheduled_is_run (setting_of back_plan back_lanes) (usual_way (setting_of back_plan back_lanes).eras)
-    (usual_lawful (setting_of back_plan back_lanes).eras) back_journal back_scheduled (omega arith))
+    (run_of_schedule back_plan back_lanes back_journal back_scheduled (omega arith))
 
 -- ---- an inbound packet before the record of its flow: its place is its first entry
 
@@ -99,7 +97,7 @@ early_plan = record {
   function = Nat wide;
   shards = 1;
   batch = 1;
-  epochs = record { instances = record { lane = 0; quota = None; stop = None } ∷ record { lane = 1; quota = None; stop = None } ∷ []; active = []; sweep = No; schedule = 0 ∷ 0 ∷ 1 ∷ 1 ∷ 0 ∷ [] } ∷ [];
+  epochs = epoch_of (on_lane 0 ∷ on_lane 1 ∷ []) [] No (0 ∷ 0 ∷ 1 ∷ 1 ∷ 0 ∷ []) ∷ [];
   some_shards = omega arith;
   few_shards = omega arith;
   some_batch = omega arith;
@@ -144,8 +142,7 @@ early_verdicts = refl
 
 pub early_boxed : IsOneBoxOfPlan early_plan early_lanes early_journal
 early_boxed = one_box_of_plan early_plan early_lanes early_journal refl
-    (scheduled_is_run (setting_of early_plan early_lanes) (usual_way (setting_of early_plan early_lanes).eras)
-    (usual_lawful (setting_of early_plan early_lanes).eras) early_journal early_scheduled (omega arith))
+    (run_of_schedule early_plan early_lanes early_journal early_scheduled (omega arith))
 
 early_place : visits_of (setting_of early_plan early_lanes).scene early_journal 2 early_second
     ≡ record { arrival = record { packet = answer; choice = None; time = 0 }; verdict = Some (Dropped NoFlow) } ∷ []
@@ -164,7 +161,7 @@ full_plan = record {
   function = Nat narrow;
   shards = 1;
   batch = 1;
-  epochs = record { instances = record { lane = 0; quota = None; stop = None } ∷ []; active = []; sweep = No; schedule = [] } ∷ [];
+  epochs = epoch_of (on_lane 0 ∷ []) [] No [] ∷ [];
   some_shards = omega arith;
   few_shards = omega arith;
   some_batch = omega arith;
@@ -207,5 +204,4 @@ full_verdicts = refl
 
 pub full_boxed : IsOneBoxOfPlan full_plan full_lanes full_journal
 full_boxed = one_box_of_plan full_plan full_lanes full_journal refl
-    (scheduled_is_run (setting_of full_plan full_lanes) (usual_way (setting_of full_plan full_lanes).eras)
-    (usual_lawful (setting_of full_plan full_lanes).eras) full_journal full_scheduled (omega arith))
+    (run_of_schedule full_plan full_lanes full_journal full_scheduled (omega arith))

@@ -7,7 +7,7 @@ use Rattle.slnf_setting.proofs.Fewness.{items_of_run, fewer_of_items}
 use Rattle.slnf_setting.proofs.theorems.plan_has_one_box.Goals as goal
 
 pub returns : goal.returns
-returns g = record {
+returns c = record {
   sound = plan_sound;
   own = no_strays;
   one_box = one_box_of_plan;
