@@ -16,14 +16,14 @@ pub era_at : (eras : List Era) (number k : ℕ) (era : Era) → slice_get eras n
 era_at [] number k era at l = absurd (cc)
 era_at (first ∷ eras) zero k era at l =
     let e : length first.actors ≡ length era.actors = ap
-        (λ (o : Option Era). elim o [ None ↦ 0 | Some x ↦ length x.actors ]) at in
+    (λ (o : Option Era). elim o [ None ↦ 0 | Some x ↦ length x.actors ]) at in
     let inside : nat_lt (0 + k) (length first.actors) ≡ true = grind (arith, nat_tests) in
     cond-true (nat_lt (0 + k) (length first.actors)) 0 _ inside
 era_at (first ∷ eras) (suc number) k era at l =
     let behind : nat_lt (length first.actors + base_of eras number + k) (length first.actors)
-        ≡ false = grind (arith, nat_tests) in
+    ≡ false = grind (arith, nat_tests) in
     let rest : length first.actors + base_of eras number + k - length first.actors
-        ≡ base_of eras number + k = omega arith in
+    ≡ base_of eras number + k = omega arith in
     let q : number + 1 ≡ suc number = omega arith in
     cond-false (nat_lt (length first.actors + base_of eras number + k) (length first.actors)) 0 _ behind
     ∙ (ap (λ i. era_of eras i + 1) rest ∙ (ap (λ n. n + 1) (era_at eras number k era at l) ∙ q))
@@ -44,14 +44,14 @@ pub actor_there : (eras : List Era) (number k : ℕ) (era : Era) → slice_get e
 actor_there [] number k era at l = absurd (cc)
 actor_there (first ∷ eras) zero k era at l =
     let e : length first.actors ≡ length era.actors = ap
-        (λ (o : Option Era). elim o [ None ↦ 0 | Some x ↦ length x.actors ]) at in
+    (λ (o : Option Era). elim o [ None ↦ 0 | Some x ↦ length x.actors ]) at in
     let q : 0 + k ≡ k = omega arith in
     ap (slice_get (first.actors ++ actors_of eras)) q
     ∙ (slice_get-front first.actors (actors_of eras) k (omega arith)
     ∙ ap (λ (o : Option Era). elim o [ None ↦ None | Some x ↦ slice_get x.actors k ]) at)
 actor_there (first ∷ eras) (suc number) k era at l =
     slice_get-back first.actors (actors_of eras) (base_of eras number + k)
-        (length first.actors + base_of eras number + k) (omega arith)
+    (length first.actors + base_of eras number + k) (omega arith)
     ∙ actor_there eras number k era at l
 
 module _ (eras : List Era) (number k : ℕ) (era : Era) (actor : Actor) (at : slice_get eras number ≡ Some era)
@@ -64,7 +64,7 @@ module _ (eras : List Era) (number k : ℕ) (era : Era) (actor : Actor) (at : sl
   pub begins_at : {F : Type 0} (lanes : List Lane) (starts : ℕ → ℕ → Packet → Start F) (sweeps : ℕ → ℕ → Stand F)
       (item : ℕ)
       → begins_of eras lanes starts sweeps (base_of eras number + k) item
-          ≡ lane_begins lanes (starts (base_of eras number + k))
+      ≡ lane_begins lanes (starts (base_of eras number + k))
       (sweeps (base_of eras number + k)) item actor.lane
   begins_at lanes starts sweeps item =
       ap (actor_begins lanes (starts (base_of eras number + k)) (sweeps (base_of eras number + k)) item)

@@ -20,13 +20,13 @@ one_sweep (Yes stop) = omega arith
 few_in : (epoch : Epoch) → has_instances epoch ≡ true → length (era_of_epoch epoch).actors ≤ 33
 few_in epoch h =
     let few : length epoch.instances ≤ 32 = leb-true (length epoch.instances) 32
-        (and_parts (nat_le (length epoch.instances) 32) (list_all is_instance epoch.instances) h).0 in
+    (and_parts (nat_le (length epoch.instances) 32) (list_all is_instance epoch.instances) h).0 in
     let one : length (sweep_actors epoch.sweep) ≤ 1 = one_sweep epoch.sweep in
     let size : length (map instance_actor epoch.instances ++ sweep_actors epoch.sweep)
-        ≡ length (map instance_actor epoch.instances) + length (sweep_actors epoch.sweep) = length-append
-        (map instance_actor epoch.instances) (sweep_actors epoch.sweep) in
+    ≡ length (map instance_actor epoch.instances) + length (sweep_actors epoch.sweep) = length-append
+    (map instance_actor epoch.instances) (sweep_actors epoch.sweep) in
     let same : length (map instance_actor epoch.instances)
-        ≡ length epoch.instances = length-map epoch.instances instance_actor in
+    ≡ length epoch.instances = length-map epoch.instances instance_actor in
     omega arith
 
 few_actors : (epochs : List Epoch) → list_all has_instances epochs ≡ true
@@ -34,12 +34,12 @@ few_actors : (epochs : List Epoch) → list_all has_instances epochs ≡ true
 few_actors [] h = omega arith
 few_actors (epoch ∷ epochs) h =
     let parts : (has_instances epoch ≡ true) × (list_all has_instances epochs ≡ true) = and_parts
-        (has_instances epoch) (list_all has_instances epochs) h in
+    (has_instances epoch) (list_all has_instances epochs) h in
     let here : length (era_of_epoch epoch).actors ≤ 33 = few_in epoch parts.0 in
     let rest : length (actors_of (eras_of epochs)) ≤ 33 * length epochs = few_actors epochs parts.1 in
     let size : length ((era_of_epoch epoch).actors ++ actors_of (eras_of epochs))
-        ≡ length (era_of_epoch epoch).actors + length (actors_of (eras_of epochs)) = length-append
-        (era_of_epoch epoch).actors (actors_of (eras_of epochs)) in
+    ≡ length (era_of_epoch epoch).actors + length (actors_of (eras_of epochs)) = length-append
+    (era_of_epoch epoch).actors (actors_of (eras_of epochs)) in
     omega arith
 
 -- so the number of an incarnation has 32 bits

@@ -63,12 +63,12 @@ few_sweeps : (epochs : List Epoch) → sweeps_in (actors_of (eras_of epochs)) �
 few_sweeps [] = omega arith
 few_sweeps (epoch ∷ epochs) =
     let a : sweeps_in ((map instance_actor epoch.instances ++ sweep_actors epoch.sweep) ++ actors_of (eras_of epochs))
-        ≡ sweeps_in (map instance_actor epoch.instances ++ sweep_actors epoch.sweep) + sweeps_in
-        (actors_of (eras_of epochs)) = sweeps_append (map instance_actor epoch.instances ++ sweep_actors epoch.sweep)
-        (actors_of (eras_of epochs)) in
+    ≡ sweeps_in (map instance_actor epoch.instances ++ sweep_actors epoch.sweep) + sweeps_in
+    (actors_of (eras_of epochs)) = sweeps_append (map instance_actor epoch.instances ++ sweep_actors epoch.sweep)
+    (actors_of (eras_of epochs)) in
     let b : sweeps_in (map instance_actor epoch.instances ++ sweep_actors epoch.sweep)
-        ≡ sweeps_in (map instance_actor epoch.instances) + sweeps_in (sweep_actors epoch.sweep) = sweeps_append
-        (map instance_actor epoch.instances) (sweep_actors epoch.sweep) in
+    ≡ sweeps_in (map instance_actor epoch.instances) + sweeps_in (sweep_actors epoch.sweep) = sweeps_append
+    (map instance_actor epoch.instances) (sweep_actors epoch.sweep) in
     let c : sweeps_in (map instance_actor epoch.instances) ≡ 0 = no_instance_sweeps epoch.instances in
     let d : sweeps_in (sweep_actors epoch.sweep) ≤ 1 = one_sweep epoch.sweep in
     let e : sweeps_in (actors_of (eras_of epochs)) ≤ length epochs = few_sweeps epochs in
@@ -105,79 +105,79 @@ module _ (plan : Plan) (lanes : List Lane) (es : List Entry) (ps ws : List Item)
       let a : length (ps ++ ws) ≡ length ps + length ws = length-append ps ws in
       let b : length ps ≤ total_of (lane_sizes lanes) = subst (λ ns. length ps ≤ total_of ns) is are.few in
       let c : length ws ≤ sweeps_in (actors_of s.eras) * 0 = subst
-          (λ n. length ws ≤ sweeps_in (actors_of s.eras) * n) none are.items in
+      (λ n. length ws ≤ sweeps_in (actors_of s.eras) * n) none are.items in
       omega (arith, few)
 
   few_by : (f : FunctionPlan) → has_types f ≡ true
       → (let s : Setting AnyFlight Arrival = setting_with plan.shards plan.batch plan.epochs lanes (sweep_items_of f)
-          (scene_of f plan.epochs lanes) in HasPaths s.scene es → AreItemsOf s ps ws es → length es < 2 ^ 41)
+      (scene_of f plan.epochs lanes) in HasPaths s.scene es → AreItemsOf s ps ws es → length es < 2 ^ 41)
   few_by (Nat pool) types paths are =
       let s : Setting AnyFlight Arrival = setting_with plan.shards plan.batch plan.epochs lanes (2 * port_count pool)
-          (scene_of (Nat pool) plan.epochs lanes) in
+      (scene_of (Nat pool) plan.epochs lanes) in
       let most : ℕ → ℕ → ℕ = most_in (Nat pool) (scene_of (Nat pool) plan.epochs lanes).begins es in
       let bound : IsBoundedFor (Nat pool) (scene_of (Nat pool) plan.epochs lanes).begins es = bounded_by
-          (Nat pool) plan.epochs lanes es legal paths in
+      (Nat pool) plan.epochs lanes es legal paths in
       let high : pool.high < 2 ^ 16 = ltb-true pool.high (2 ^ 16)
-          (and_parts (nat_lt pool.outside (2 ^ 32)) (nat_lt pool.high (2 ^ 16)) types).1 in
+      (and_parts (nat_lt pool.outside (2 ^ 32)) (nat_lt pool.high (2 ^ 16)) types).1 in
       let ports : pool.high - pool.low + 1 ≤ 2 ^ 16 = omega arith in
       let total : length es ≤ sum_over most (ps ++ ws) = bound.total (ps ++ ws) are.of in
       let parts : sum_over most (ps ++ ws) ≡ sum_over most ps + sum_over most ws = sum_append most ps ws in
       let by_packets : sum_over most ps ≤ length ps * (port_count pool + 3) =
       sum_most most (port_count pool + 3) ps (each_of_all (λ i k. most i k ≤ port_count pool + 3)
-          (λ i k. nat_most (port_count pool) (others_on (Nat pool) es i k) (λ packet. refl)
-          ((scene_of (Nat pool) plan.epochs lanes).begins i k)) ps) in
+      (λ i k. nat_most (port_count pool) (others_on (Nat pool) es i k) (λ packet. refl)
+      ((scene_of (Nat pool) plan.epochs lanes).begins i k)) ps) in
       let by_sweeps : sum_over most ws ≤ length ws * 3 =
       sum_most most 3 ws (each_item_weaker (λ i k. IsSweep (eras_of plan.epochs) i) (λ i k. most i k ≤ 3)
-          (λ i k h. swept i k h.0 h.1 h.2) ws are.swept) in
+      (λ i k h. swept i k h.0 h.1 h.2) ws are.swept) in
       let packets_size : length ps ≤ total_of (lane_sizes lanes) = are.few in
       let sweeps_size : length ws ≤ sweeps_in (actors_of (eras_of plan.epochs)) * (2 * port_count pool) = are.items in
       let epochs : length plan.epochs ≤ 1000 = plan.few_epochs in
       let some : sweeps_in (actors_of (eras_of plan.epochs)) ≤ length plan.epochs = few_sweeps plan.epochs in
       let swept_most : sweeps_in (actors_of (eras_of plan.epochs)) * (2 * port_count pool) ≤ 1000 * 131072 = mul-le
-          (sweeps_in (actors_of (eras_of plan.epochs))) (2 * port_count pool) 1000 131072 (omega arith)
-          (omega arith) in
+      (sweeps_in (actors_of (eras_of plan.epochs))) (2 * port_count pool) 1000 131072 (omega arith)
+      (omega arith) in
       let few_packets : length ps * (port_count pool + 3) ≤ 2 ^ 20 * (port_count pool + 3) = mul-le (length ps)
-          (port_count pool + 3) (2 ^ 20) (port_count pool + 3) (omega arith) (omega arith) in
+      (port_count pool + 3) (2 ^ 20) (port_count pool + 3) (omega arith) (omega arith) in
       below (length es) (sum_over most (ps ++ ws)) (sum_over most ps) (sum_over most ws) (port_count pool + 3)
       total parts (omega (arith, by_packets, few_packets)) (omega (arith, by_sweeps, sweeps_size, swept_most))
-          (omega (arith, ports))
+      (omega (arith, ports))
     where
       swept : (i k : ℕ) (actor : Actor) → slice_get (actors_of (eras_of plan.epochs)) i ≡ Some actor
           → actor.lane ≡ None → most_in (Nat pool) (scene_of (Nat pool) plan.epochs lanes).begins es i k ≤ 3
       swept i k actor at none =
           subst (λ st. most_at (port_count pool) (others_on (Nat pool) es i k) (stand_as NatFlies st) ≤ 3)
-              (sym (begins_in_sweep (eras_of plan.epochs) lanes (nat_starts pool)
-              (nat_sweeps pool (eras_of plan.epochs)) i k actor at none))
+          (sym (begins_in_sweep (eras_of plan.epochs) lanes (nat_starts pool)
+          (nat_sweeps pool (eras_of plan.epochs)) i k actor at none))
           (item_sweeps (λ st. most_at (port_count pool) (others_on (Nat pool) es i k)
-              (stand_as NatFlies st) ≤ 3) pool _ k (λ proto place. omega arith) (omega arith))
+          (stand_as NatFlies st) ≤ 3) pool _ k (λ proto place. omega arith) (omega arith))
   few_by (Firewall inside rules) types paths are =
       let s : Setting AnyFlight Arrival = setting_with plan.shards plan.batch plan.epochs lanes 0
-          (scene_of (Firewall inside rules) plan.epochs lanes) in
+      (scene_of (Firewall inside rules) plan.epochs lanes) in
       let policy = policy_with inside rules in
       let own = own_paths fw_case (setting_with 1 1 plan.epochs lanes 0 (fw_own policy plan.epochs lanes)) es paths in
       let bound : IsBounded policy (begins_of (eras_of plan.epochs) lanes
-          (fw_starts policy) no_sweeps) es = fw_bounded policy
-          (begins_of (eras_of plan.epochs) lanes (fw_starts policy) no_sweeps) es
-          (fw_flights policy 1 1 plan.epochs lanes) legal own in
+      (fw_starts policy) no_sweeps) es = fw_bounded policy
+      (begins_of (eras_of plan.epochs) lanes (fw_starts policy) no_sweeps) es
+      (fw_flights policy 1 1 plan.epochs lanes) legal own in
       let items : List Item = ps ++ ws in
       let total : length es ≤ length items * (2 + length items) = bound.total items are.of in
       let n : length items ≤ 2 ^ 20 = size s are refl refl in
       let m : length items * (2 + length items) ≤ 2 ^ 20 * (2 + 2 ^ 20) = mul-le (length items) (2 + length items)
-          (2 ^ 20) (2 + 2 ^ 20) n (omega (arith, n)) in
+      (2 ^ 20) (2 + 2 ^ 20) n (omega (arith, n)) in
       let big : 2 ^ 20 * (2 + 2 ^ 20) < 2 ^ 41 = omega arith in
       omega (arith, total, m, big)
   few_by (Balancer service) types paths are =
       let s : Setting AnyFlight Arrival = setting_with plan.shards plan.batch plan.epochs lanes 0
-          (scene_of (Balancer service) plan.epochs lanes) in
+      (scene_of (Balancer service) plan.epochs lanes) in
       let most : ℕ → ℕ → ℕ = most_in (Balancer service) (scene_of (Balancer service) plan.epochs lanes).begins es in
       let bound : IsBoundedFor (Balancer service) (scene_of
-          (Balancer service) plan.epochs lanes).begins es = bounded_by
-          (Balancer service) plan.epochs lanes es legal paths in
+      (Balancer service) plan.epochs lanes).begins es = bounded_by
+      (Balancer service) plan.epochs lanes es legal paths in
       let items : List Item = ps ++ ws in
       let total : length es ≤ sum_over most items = bound.total items are.of in
       let each : sum_over most items ≤ length items * 3 = sum_most most 3 items
-          (each_of_all (λ i k. most i k ≤ 3) (λ i k. lb_most (others_on (Balancer service) es i k) (λ packet. refl)
-          ((scene_of (Balancer service) plan.epochs lanes).begins i k)) items) in
+      (each_of_all (λ i k. most i k ≤ 3) (λ i k. lb_most (others_on (Balancer service) es i k) (λ packet. refl)
+      ((scene_of (Balancer service) plan.epochs lanes).begins i k)) items) in
       let n : length items ≤ 2 ^ 20 = size s are refl refl in
       omega (arith, total, each, n)
 
@@ -196,7 +196,7 @@ items_of_run plan lanes es run =
     let sound : IsSound (setting_of plan lanes) = plan_sound plan lanes in
     let p : length (packets s es sound run) ≡ total_of s.lanes = packets_few s es sound run in
     let w : length (sweeps s es sound run) ≡ sweeps_in
-        (actors_of s.eras) * s.sweep_items = sweeps_few s es sound run in (
+    (actors_of s.eras) * s.sweep_items = sweeps_few s es sound run in (
       packets s es sound run,
       sweeps s es sound run,
       record {

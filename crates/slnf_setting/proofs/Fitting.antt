@@ -14,7 +14,7 @@ use Rattle.slnf_setting.proofs.LanesApart.{all_at}
 pub pair_fits : (pair : Pair) → is_pair pair ≡ true → IsPair pair
 pair_fits pair h =
     let parts : (nat_lt pair.addr (2 ^ 32) ≡ true)
-        × (nat_lt pair.port (2 ^ 16) ≡ true) = and_parts (nat_lt pair.addr (2 ^ 32)) (nat_lt pair.port (2 ^ 16)) h in
+    × (nat_lt pair.port (2 ^ 16) ≡ true) = and_parts (nat_lt pair.addr (2 ^ 32)) (nat_lt pair.port (2 ^ 16)) h in
     record { addr_fits = ltb-true pair.addr (2 ^ 32) parts.0; port_fits = ltb-true pair.port (2 ^ 16) parts.1 }
 
 -- each captured packet's pairs are in range

@@ -97,7 +97,7 @@ coming flags = record { proto = Tcp; source = server; dest = client; flags = fla
 abbrev lanes : List Lane
 lanes =
     lane_of (Seen (going 2) ∷ Seen (going 16) ∷ Seen (going 17) ∷ Bad Short ∷ Seen
-        (record { proto = Tcp; source = server; dest = server; flags = 2 }) ∷ []) refl
+    (record { proto = Tcp; source = server; dest = server; flags = 2 }) ∷ []) refl
     ∷ lane_of (Seen (coming 18) ∷ Seen (coming 17) ∷ []) refl
     ∷ []
 
@@ -124,22 +124,64 @@ value state = fw_value (record { by_outside = false; state = state })
 abbrev journal : List Entry
 journal =
     record { stamp = 1; shard = 0; incarnation = 0; item = 0; request = Read key; reply = Absent }
-    ∷ record { stamp = 2; shard = 0; incarnation = 0; item = 0; request = PutIfAbsent key
-        (value SynSent); reply = Done 2 }
+    ∷ record {
+      stamp = 2;
+      shard = 0;
+      incarnation = 0;
+      item = 0;
+      request = PutIfAbsent key
+          (value SynSent);
+      reply = Done 2;
+    }
     ∷ record { stamp = 3; shard = 0; incarnation = 1; item = 0; request = Read key; reply = Found (value SynSent) 2 }
-    ∷ record { stamp = 4; shard = 0; incarnation = 1; item = 0; request = ReplaceIf key 2
-        (value SynAcked); reply = Done 4 }
+    ∷ record {
+      stamp = 4;
+      shard = 0;
+      incarnation = 1;
+      item = 0;
+      request = ReplaceIf key 2
+          (value SynAcked);
+      reply = Done 4;
+    }
     ∷ record { stamp = 5; shard = 0; incarnation = 0; item = 1; request = Read key; reply = Found (value SynAcked) 4 }
-    ∷ record { stamp = 6; shard = 0; incarnation = 0; item = 1; request = ReplaceIf key 4
-        (value Opened); reply = Done 6 }
+    ∷ record {
+      stamp = 6;
+      shard = 0;
+      incarnation = 0;
+      item = 1;
+      request = ReplaceIf key 4
+          (value Opened);
+      reply = Done 6;
+    }
     ∷ record { stamp = 7; shard = 0; incarnation = 0; item = 2; request = Read key; reply = Found (value Opened) 6 }
     ∷ record { stamp = 8; shard = 0; incarnation = 1; item = 1; request = Read key; reply = Found (value Opened) 6 }
-    ∷ record { stamp = 9; shard = 0; incarnation = 0; item = 2; request = ReplaceIf key 6
-        (value FinByOpener); reply = Done 9 }
-    ∷ record { stamp = 10; shard = 0; incarnation = 1; item = 1; request = ReplaceIf key 6
-        (value FinByOther); reply = Found (value FinByOpener) 9 }
-    ∷ record { stamp = 11; shard = 0; incarnation = 1; item = 1; request = ReplaceIf key 9
-        (value BothFin); reply = Done 11 }
+    ∷ record {
+      stamp = 9;
+      shard = 0;
+      incarnation = 0;
+      item = 2;
+      request = ReplaceIf key 6
+          (value FinByOpener);
+      reply = Done 9;
+    }
+    ∷ record {
+      stamp = 10;
+      shard = 0;
+      incarnation = 1;
+      item = 1;
+      request = ReplaceIf key 6
+          (value FinByOther);
+      reply = Found (value FinByOpener) 9;
+    }
+    ∷ record {
+      stamp = 11;
+      shard = 0;
+      incarnation = 1;
+      item = 1;
+      request = ReplaceIf key 9
+          (value BothFin);
+      reply = Done 11;
+    }
     ∷ []
 
 -- the schedule makes the journal

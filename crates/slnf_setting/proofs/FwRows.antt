@@ -75,8 +75,10 @@ lanes = lane_of (
 
 -- the digits of the key by hand, inside pair first
 abbrev key : ℕ → Pair → Key
-key proto inside = record { 0 = 3 * 2 ^ 120 + proto * 2 ^ 112 + (3325256711 * 65536 + 80) * 2 ^ 48 +
-    (inside.addr * 65536 + inside.port) }
+key proto inside = record {
+  0 = 3 * 2 ^ 120 + proto * 2 ^ 112 + (3325256711 * 65536 + 80) * 2 ^ 48 +
+      (inside.addr * 65536 + inside.port);
+}
 
 abbrev val : ℕ → Value
 val n = record { 0 = n }

@@ -108,6 +108,6 @@ module _ (policy : Policy) (shards batch : ℕ) (epochs : List Epoch) (lanes : L
       → IsOneBoxWhole (case_setting fw_case own) (any_fw_box policy) IsSameConns es
   fw_whole es apart run =
       case_whole fw_case own es (fw_box policy) IsSameConns (fw_sound apart)
-          (case_places fw_case own es (λ es number first verdict. refl)) run
+      (case_places fw_case own es (λ es number first verdict. refl)) run
       (fw_explained policy (begins_of (eras_of epochs) lanes (fw_starts policy) no_sweeps) es fw_flights
-          (rises_in_order shards es run.in_order run.in_shards) run.legal (case_paths fw_case own es run))
+      (rises_in_order shards es run.in_order run.in_shards) run.legal (case_paths fw_case own es run))

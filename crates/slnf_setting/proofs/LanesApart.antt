@@ -50,7 +50,7 @@ distinct_at (m ∷ ns) n (suc i) zero h at there = absurd
     (twice m n ns i (and_parts (not (list_any (λ x. x == m) ns)) (are_distinct ns) h).0 (same_Some m n there) at)
 distinct_at (m ∷ ns) n (suc i) (suc k) h at there =
     ap (λ x. suc x) (distinct_at ns n i k (and_parts (not (list_any (λ x. x == m) ns))
-        (are_distinct ns) h).1 at there)
+    (are_distinct ns) h).1 at there)
 
 -- a sweep is on no lane
 no_lane : (lane : ℕ) (sweep : SweepPlan) (i : ℕ) (a : Actor) → slice_get (sweep_actors sweep) i ≡ Some a
@@ -79,10 +79,10 @@ pub lanes_once : (epochs : List Epoch) → list_all has_lanes_apart epochs ≡ t
     → slice_get (eras_of epochs) number ≡ Some era → HasLanesOnce era.actors
 lanes_once epochs apart number era there lane i k a b at_a at_b on_a on_b =
     let r : (epoch : Epoch) × (slice_get epochs number ≡ Some epoch)
-        × (era_of_epoch epoch ≡ era) = era_behind epochs number era there in
+    × (era_of_epoch epoch ≡ era) = era_behind epochs number era there in
     let own : (j : ℕ) (x : Actor) → slice_get era.actors j
-        ≡ Some x → IsTrue (is_on lane x) → slice_get (map (λ x. x.lane) r.0.instances) j
-        ≡ Some lane = λ j x at on. lane_at lane r.0.instances r.0.sweep j x
-        (ap (λ (e : Era). slice_get e.actors j) r.2 ∙ at) on in
+    ≡ Some x → IsTrue (is_on lane x) → slice_get (map (λ x. x.lane) r.0.instances) j
+    ≡ Some lane = λ j x at on. lane_at lane r.0.instances r.0.sweep j x
+    (ap (λ (e : Era). slice_get e.actors j) r.2 ∙ at) on in
     distinct_at (map (λ x. x.lane) r.0.instances) lane i k (all_at has_lanes_apart epochs number r.0 apart r.1)
-        (own i a at_a on_a) (own k b at_b on_b)
+    (own i a at_a on_a) (own k b at_b on_b)

@@ -88,10 +88,24 @@ abbrev journal : List Entry
 journal =
     record { stamp = 1; shard = 0; incarnation = 0; item = 0; request = Read (pin_key Udp client); reply = Absent }
     ∷ record { stamp = 2; shard = 0; incarnation = 1; item = 0; request = Read (pin_key Udp client); reply = Absent }
-    ∷ record { stamp = 3; shard = 0; incarnation = 0; item = 0; request = PutIfAbsent (pin_key Udp client)
-        (pin_value first); reply = Done 3 }
-    ∷ record { stamp = 4; shard = 0; incarnation = 1; item = 0; request = PutIfAbsent (pin_key Udp client)
-        (pin_value second); reply = Found (pin_value first) 3 }
+    ∷ record {
+      stamp = 3;
+      shard = 0;
+      incarnation = 0;
+      item = 0;
+      request = PutIfAbsent (pin_key Udp client)
+          (pin_value first);
+      reply = Done 3;
+    }
+    ∷ record {
+      stamp = 4;
+      shard = 0;
+      incarnation = 1;
+      item = 0;
+      request = PutIfAbsent (pin_key Udp client)
+          (pin_value second);
+      reply = Found (pin_value first) 3;
+    }
     ∷ []
 
 -- the schedule makes the journal

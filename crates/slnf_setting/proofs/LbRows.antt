@@ -64,14 +64,42 @@ return_lanes = lane_of (going client ∷ going client ∷ coming first ∷ comin
 abbrev return_journal : List Entry
 return_journal =
     record { stamp = 1; shard = 0; incarnation = 0; item = 0; request = Read (pin_key Udp client); reply = Absent }
-    ∷ record { stamp = 2; shard = 0; incarnation = 0; item = 0; request = PutIfAbsent (pin_key Udp client)
-        (pin_value first); reply = Done 2 }
-    ∷ record { stamp = 3; shard = 0; incarnation = 0; item = 1; request = Read (pin_key Udp client); reply = Found
-        (pin_value first) 2 }
-    ∷ record { stamp = 4; shard = 0; incarnation = 0; item = 2; request = Read (pin_key Udp client); reply = Found
-        (pin_value first) 2 }
-    ∷ record { stamp = 5; shard = 0; incarnation = 0; item = 3; request = Read (pin_key Udp client); reply = Found
-        (pin_value first) 2 }
+    ∷ record {
+      stamp = 2;
+      shard = 0;
+      incarnation = 0;
+      item = 0;
+      request = PutIfAbsent (pin_key Udp client)
+          (pin_value first);
+      reply = Done 2;
+    }
+    ∷ record {
+      stamp = 3;
+      shard = 0;
+      incarnation = 0;
+      item = 1;
+      request = Read (pin_key Udp client);
+      reply = Found
+          (pin_value first) 2;
+    }
+    ∷ record {
+      stamp = 4;
+      shard = 0;
+      incarnation = 0;
+      item = 2;
+      request = Read (pin_key Udp client);
+      reply = Found
+          (pin_value first) 2;
+    }
+    ∷ record {
+      stamp = 5;
+      shard = 0;
+      incarnation = 0;
+      item = 3;
+      request = Read (pin_key Udp client);
+      reply = Found
+          (pin_value first) 2;
+    }
     ∷ []
 
 return_scheduled : IsScheduled (setting_of return_plan return_lanes)
@@ -116,14 +144,42 @@ batch_lanes = lane_of (going client ∷ going next_client ∷ going client ∷ [
 abbrev batch_journal : List Entry
 batch_journal =
     record { stamp = 1; shard = 0; incarnation = 0; item = 0; request = Read (pin_key Udp client); reply = Absent }
-    ∷ record { stamp = 2; shard = 0; incarnation = 0; item = 1; request = Read
-        (pin_key Udp next_client); reply = Absent }
-    ∷ record { stamp = 3; shard = 0; incarnation = 0; item = 0; request = PutIfAbsent (pin_key Udp client)
-        (pin_value first); reply = Done 3 }
-    ∷ record { stamp = 4; shard = 0; incarnation = 0; item = 1; request = PutIfAbsent (pin_key Udp next_client)
-        (pin_value second); reply = Done 4 }
-    ∷ record { stamp = 5; shard = 0; incarnation = 0; item = 2; request = Read (pin_key Udp client); reply = Found
-        (pin_value first) 3 }
+    ∷ record {
+      stamp = 2;
+      shard = 0;
+      incarnation = 0;
+      item = 1;
+      request = Read
+          (pin_key Udp next_client);
+      reply = Absent;
+    }
+    ∷ record {
+      stamp = 3;
+      shard = 0;
+      incarnation = 0;
+      item = 0;
+      request = PutIfAbsent (pin_key Udp client)
+          (pin_value first);
+      reply = Done 3;
+    }
+    ∷ record {
+      stamp = 4;
+      shard = 0;
+      incarnation = 0;
+      item = 1;
+      request = PutIfAbsent (pin_key Udp next_client)
+          (pin_value second);
+      reply = Done 4;
+    }
+    ∷ record {
+      stamp = 5;
+      shard = 0;
+      incarnation = 0;
+      item = 2;
+      request = Read (pin_key Udp client);
+      reply = Found
+          (pin_value first) 3;
+    }
     ∷ []
 
 batch_scheduled : IsScheduled (setting_of batch_plan batch_lanes)
@@ -168,12 +224,33 @@ shard_lanes = lane_of (going client ∷ []) refl ∷ lane_of (going next_client 
 abbrev shard_journal : List Entry
 shard_journal =
     record { stamp = 1; shard = 0; incarnation = 0; item = 0; request = Read (pin_key Udp client); reply = Absent }
-    ∷ record { stamp = 1; shard = 1; incarnation = 1; item = 0; request = Read
-        (pin_key Udp next_client); reply = Absent }
-    ∷ record { stamp = 2; shard = 0; incarnation = 0; item = 0; request = PutIfAbsent (pin_key Udp client)
-        (pin_value first); reply = Done 2 }
-    ∷ record { stamp = 2; shard = 1; incarnation = 1; item = 0; request = PutIfAbsent (pin_key Udp next_client)
-        (pin_value second); reply = Done 2 }
+    ∷ record {
+      stamp = 1;
+      shard = 1;
+      incarnation = 1;
+      item = 0;
+      request = Read
+          (pin_key Udp next_client);
+      reply = Absent;
+    }
+    ∷ record {
+      stamp = 2;
+      shard = 0;
+      incarnation = 0;
+      item = 0;
+      request = PutIfAbsent (pin_key Udp client)
+          (pin_value first);
+      reply = Done 2;
+    }
+    ∷ record {
+      stamp = 2;
+      shard = 1;
+      incarnation = 1;
+      item = 0;
+      request = PutIfAbsent (pin_key Udp next_client)
+          (pin_value second);
+      reply = Done 2;
+    }
     ∷ []
 
 shard_scheduled : IsScheduled (setting_of shard_plan shard_lanes)
@@ -218,21 +295,53 @@ drain_lanes = lane_of (going client ∷ going client ∷ going client ∷ going 
 abbrev drain_journal : List Entry
 drain_journal =
     record { stamp = 1; shard = 0; incarnation = 0; item = 0; request = Read (pin_key Udp client); reply = Absent }
-    ∷ record { stamp = 2; shard = 0; incarnation = 0; item = 0; request = PutIfAbsent (pin_key Udp client)
-        (pin_value first); reply = Done 2 }
-    ∷ record { stamp = 3; shard = 0; incarnation = 0; item = 1; request = Read (pin_key Udp client); reply = Found
-        (pin_value first) 2 }
-    ∷ record { stamp = 4; shard = 0; incarnation = 0; item = 2; request = Read (pin_key Udp client); reply = Found
-        (pin_value first) 2 }
-    ∷ record { stamp = 5; shard = 0; incarnation = 1; item = 3; request = Read (pin_key Udp client); reply = Found
-        (pin_value first) 2 }
+    ∷ record {
+      stamp = 2;
+      shard = 0;
+      incarnation = 0;
+      item = 0;
+      request = PutIfAbsent (pin_key Udp client)
+          (pin_value first);
+      reply = Done 2;
+    }
+    ∷ record {
+      stamp = 3;
+      shard = 0;
+      incarnation = 0;
+      item = 1;
+      request = Read (pin_key Udp client);
+      reply = Found
+          (pin_value first) 2;
+    }
+    ∷ record {
+      stamp = 4;
+      shard = 0;
+      incarnation = 0;
+      item = 2;
+      request = Read (pin_key Udp client);
+      reply = Found
+          (pin_value first) 2;
+    }
+    ∷ record {
+      stamp = 5;
+      shard = 0;
+      incarnation = 1;
+      item = 3;
+      request = Read (pin_key Udp client);
+      reply = Found
+          (pin_value first) 2;
+    }
     ∷ []
 
 drain_scheduled : IsScheduled (setting_of drain_plan drain_lanes)
     (usual_way (setting_of drain_plan drain_lanes).eras) drain_journal
 unfolding pin_key_number single_number key_number pair_number pin_number pin_of pair_of pair_at
-drain_scheduled = record { accesses = drain_journal; made =
-    (4, ((refl, tt), (1, ((refl, tt), refl)))); sorted = refl }
+drain_scheduled = record {
+  accesses = drain_journal;
+  made =
+      (4, ((refl, tt), (1, ((refl, tt), refl))));
+  sorted = refl;
+}
 
 drain_verdicts : verdicts_of (setting_of drain_plan drain_lanes) drain_journal
     ≡ (Emit (Dest first) ∷ Emit (Dest first) ∷ Emit (Dest first) ∷ Emit (Dest first) ∷ Left ∷ []) ∷ []

@@ -41,13 +41,13 @@ returned_small service packet (Some pin) = go (is_same_pair pin.backend packet.s
   where
     go : (b : Bool)
         → suc (size_at (λ (f : Flying). lb_size f.state)
-            (stand_of_step (cond b (StepOver (Emit (Source service.front))) (StepOver (Dropped NotPinned))))) ≤ 1
+        (stand_of_step (cond b (StepOver (Emit (Source service.front))) (StepOver (Dropped NotPinned))))) ≤ 1
     go true = omega arith
     go false = omega arith
 
 lb_falls : (service : Service) (state : LbState) (packet : Packet) (choice : Pair) (reply : Reply)
     → suc (size_at (λ (f : Flying). lb_size f.state)
-        (stand_of_step (lb_goes_in service state packet choice reply))) ≤ lb_size state
+    (stand_of_step (lb_goes_in service state packet choice reply))) ≤ lb_size state
 lb_falls service Forward packet choice (Done version) = omega arith
 lb_falls service Forward packet choice (Found value version) = let r : suc
     (size_at (λ (f : Flying). lb_size f.state) (stand_of_step (forwarded (pin_of value.0)))) ≤ 1 = forwarded_small
@@ -74,6 +74,6 @@ pub lb_short : (service : Service) (ports : ℕ) (others : Packet → ℕ) (st :
     → IsPath (lb_machine service) st own → length own ≤ most_at ports others (stand_as LbFlies st)
 lb_short service ports others st own path =
     let r : length own ≤ size_at (λ (f : Flying). lb_size f.state) st = path_short (lb_machine service)
-        (λ f. lb_size f.state) (λ f reply. lb_falls service f.state f.packet f.choice reply) st own path in
+    (λ f. lb_size f.state) (λ f reply. lb_falls service f.state f.packet f.choice reply) st own path in
     le_trans (length own) (size_at (λ (f : Flying). lb_size f.state) st)
-        (most_at ports others (stand_as LbFlies st)) r (small_lb ports others st)
+    (most_at ports others (stand_as LbFlies st)) r (small_lb ports others st)

@@ -60,7 +60,7 @@ returned_well service packet (Some pin) = go (is_same_pair pin.backend packet.so
   where
     go : (b : Bool)
         → EndsWell (stand_of_step (let s : Step Flying = cond b (StepOver (Emit (Source service.front)))
-            (StepOver (Dropped NotPinned)) in s))
+        (StepOver (Dropped NotPinned)) in s))
     go true = tt
     go false = tt
 
@@ -123,16 +123,21 @@ starts_flight : (service : Service) (packet : Packet) (choice : Pair) (first : F
     → is_forward service packet ≡ f → is_return service packet ≡ r → IsPair packet.source → IsPair packet.dest
     → IsPair choice
     → (let s : Start Flying = cond f (StartGo (record { state = Forward; packet = packet; choice = choice }))
-        (cond r (StartGo (record { state = Return; packet = packet; choice = choice })) (StartOver Neither)) in s)
-        ≡ StartGo first
+    (cond r (StartGo (record { state = Return; packet = packet; choice = choice })) (StartOver Neither)) in s)
+    ≡ StartGo first
     → IsFlight service first
 starts_flight service packet choice first true r forward return source dest chosen h =
     let is : record { state = Forward; packet = packet; choice = choice } ≡ first = cc in
     subst (IsFlight service) is (record { direction = forward; source = source; dest = dest; choice = chosen })
 starts_flight service packet choice first false true forward return source dest chosen h =
     let is : record { state = Return; packet = packet; choice = choice } ≡ first = cc in
-    subst (IsFlight service) is (record { direction =
-        (forward, return); source = source; dest = dest; choice = chosen })
+    subst (IsFlight service) is (record {
+      direction =
+          (forward, return);
+      source = source;
+      dest = dest;
+      choice = chosen;
+    })
 starts_flight service packet choice first false false forward return source dest chosen h = absurd (cc)
 
 module _ (service : Service) (shards batch : ℕ) (epochs : List Epoch) (lanes : List Lane) where
@@ -159,7 +164,7 @@ module _ (service : Service) (shards batch : ℕ) (epochs : List Epoch) (lanes :
           let pairs : IsPair packet.source × IsPair packet.dest =
           lanes_fit lanes started.lane k packet started.captured in
           starts_flight service packet (choice_of active i k) first (is_forward service packet)
-              (is_return service packet) refl refl pairs.0 pairs.1
+          (is_return service packet) refl refl pairs.0 pairs.1
           (choice_fits active (epoch_fits service fits (slice_get epochs (era_of (eras_of epochs) i))) i k)
           started.start
       go (inr swept) = absurd (cc)
@@ -169,6 +174,6 @@ module _ (service : Service) (shards batch : ℕ) (epochs : List Epoch) (lanes :
       → IsOneBoxWhole (case_setting lb_case own) (any_lb_box service) IsSameMap es
   lb_whole es apart fits run =
       case_whole lb_case own es (lb_box service) IsSameMap (lb_sound apart)
-          (case_places lb_case own es (λ es number first verdict. refl)) run
+      (case_places lb_case own es (λ es number first verdict. refl)) run
       (lb_explained service (begins_of (eras_of epochs) lanes (lb_starts service epochs) no_sweeps) es
-          (lb_flights fits) run.legal (case_paths lb_case own es run))
+      (lb_flights fits) run.legal (case_paths lb_case own es run))

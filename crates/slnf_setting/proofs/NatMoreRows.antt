@@ -55,16 +55,51 @@ abbrev race_journal : List Entry
 race_journal =
     record { stamp = 1; shard = 0; incarnation = 0; item = 0; request = Read (flow five); reply = Absent }
     ∷ record { stamp = 2; shard = 0; incarnation = 1; item = 0; request = Read (flow five); reply = Absent }
-    ∷ record { stamp = 3; shard = 0; incarnation = 0; item = 0; request = PutIfAbsent (tcp 40001)
-        (claim 0 five); reply = Done 3 }
-    ∷ record { stamp = 4; shard = 0; incarnation = 1; item = 0; request = PutIfAbsent (tcp 40001)
-        (claim 1 five); reply = Found (claim 0 five) 3 }
-    ∷ record { stamp = 5; shard = 0; incarnation = 0; item = 0; request = PutIfAbsent (flow five)
-        (to 40001); reply = Done 5 }
-    ∷ record { stamp = 6; shard = 0; incarnation = 1; item = 0; request = PutIfAbsent (tcp 40002)
-        (claim 1 five); reply = Done 6 }
-    ∷ record { stamp = 7; shard = 0; incarnation = 1; item = 0; request = PutIfAbsent (flow five)
-        (to 40002); reply = Found (to 40001) 5 }
+    ∷ record {
+      stamp = 3;
+      shard = 0;
+      incarnation = 0;
+      item = 0;
+      request = PutIfAbsent (tcp 40001)
+          (claim 0 five);
+      reply = Done 3;
+    }
+    ∷ record {
+      stamp = 4;
+      shard = 0;
+      incarnation = 1;
+      item = 0;
+      request = PutIfAbsent (tcp 40001)
+          (claim 1 five);
+      reply = Found (claim 0 five) 3;
+    }
+    ∷ record {
+      stamp = 5;
+      shard = 0;
+      incarnation = 0;
+      item = 0;
+      request = PutIfAbsent (flow five)
+          (to 40001);
+      reply = Done 5;
+    }
+    ∷ record {
+      stamp = 6;
+      shard = 0;
+      incarnation = 1;
+      item = 0;
+      request = PutIfAbsent (tcp 40002)
+          (claim 1 five);
+      reply = Done 6;
+    }
+    ∷ record {
+      stamp = 7;
+      shard = 0;
+      incarnation = 1;
+      item = 0;
+      request = PutIfAbsent (flow five)
+          (to 40002);
+      reply = Found (to 40001) 5;
+    }
     ∷ record { stamp = 8; shard = 0; incarnation = 1; item = 0; request = DeleteIf (tcp 40002) 6; reply = Done 8 }
     ∷ []
 
@@ -124,19 +159,44 @@ record_lanes = lane_of (Seen packet_f ∷ Seen packet_f ∷ []) refl ∷ []
 abbrev pub record_journal : List Entry
 record_journal =
     record { stamp = 1; shard = 0; incarnation = 0; item = 0; request = Read (flow five); reply = Absent }
-    ∷ record { stamp = 2; shard = 0; incarnation = 0; item = 0; request = PutIfAbsent (tcp 40001)
-        (claim 0 five); reply = Done 2 }
-    ∷ record { stamp = 3; shard = 0; incarnation = 0; item = 0; request = PutIfAbsent (flow five)
-        (to 40001); reply = Done 3 }
-    ∷ record { stamp = 4; shard = 0; incarnation = 1; item = 1; request = Read (flow five); reply = Found
-        (to 40001) 3 }
+    ∷ record {
+      stamp = 2;
+      shard = 0;
+      incarnation = 0;
+      item = 0;
+      request = PutIfAbsent (tcp 40001)
+          (claim 0 five);
+      reply = Done 2;
+    }
+    ∷ record {
+      stamp = 3;
+      shard = 0;
+      incarnation = 0;
+      item = 0;
+      request = PutIfAbsent (flow five)
+          (to 40001);
+      reply = Done 3;
+    }
+    ∷ record {
+      stamp = 4;
+      shard = 0;
+      incarnation = 1;
+      item = 1;
+      request = Read (flow five);
+      reply = Found
+          (to 40001) 3;
+    }
     ∷ []
 
 record_scheduled : IsScheduled (setting_of record_plan record_lanes)
     (usual_way (setting_of record_plan record_lanes).eras) record_journal
 unfolding flow_key_number port_key_number single_number key_number pair_number flow_to_number claim_number claim_of pair_at pair_of flow_to_of
-record_scheduled = record { accesses = record_journal; made =
-    (3, ((refl, tt), (1, ((refl, tt), refl)))); sorted = refl }
+record_scheduled = record {
+  accesses = record_journal;
+  made =
+      (3, ((refl, tt), (1, ((refl, tt), refl))));
+  sorted = refl;
+}
 
 record_verdicts : verdicts_of (setting_of record_plan record_lanes) record_journal
     ≡ (Lost ∷ Emit (Source (port 40001)) ∷ []) ∷ []
@@ -189,8 +249,15 @@ claimed_lanes = lane_of (Seen packet_f ∷ []) refl ∷ []
 abbrev claimed_journal : List Entry
 claimed_journal =
     record { stamp = 1; shard = 0; incarnation = 0; item = 0; request = Read (flow five); reply = Absent }
-    ∷ record { stamp = 2; shard = 0; incarnation = 0; item = 0; request = PutIfAbsent (tcp 40001)
-        (claim 0 five); reply = Done 2 }
+    ∷ record {
+      stamp = 2;
+      shard = 0;
+      incarnation = 0;
+      item = 0;
+      request = PutIfAbsent (tcp 40001)
+          (claim 0 five);
+      reply = Done 2;
+    }
     ∷ []
 
 claimed_scheduled : IsScheduled (setting_of claimed_plan claimed_lanes)
@@ -233,16 +300,51 @@ abbrev hang_journal : List Entry
 hang_journal =
     record { stamp = 1; shard = 0; incarnation = 0; item = 0; request = Read (flow five); reply = Absent }
     ∷ record { stamp = 2; shard = 0; incarnation = 1; item = 0; request = Read (flow five); reply = Absent }
-    ∷ record { stamp = 3; shard = 0; incarnation = 0; item = 0; request = PutIfAbsent (tcp 40001)
-        (claim 0 five); reply = Done 3 }
-    ∷ record { stamp = 4; shard = 0; incarnation = 1; item = 0; request = PutIfAbsent (tcp 40001)
-        (claim 1 five); reply = Found (claim 0 five) 3 }
-    ∷ record { stamp = 5; shard = 0; incarnation = 0; item = 0; request = PutIfAbsent (flow five)
-        (to 40001); reply = Done 5 }
-    ∷ record { stamp = 6; shard = 0; incarnation = 1; item = 0; request = PutIfAbsent (tcp 40002)
-        (claim 1 five); reply = Done 6 }
-    ∷ record { stamp = 7; shard = 0; incarnation = 1; item = 0; request = PutIfAbsent (flow five)
-        (to 40002); reply = Found (to 40001) 5 }
+    ∷ record {
+      stamp = 3;
+      shard = 0;
+      incarnation = 0;
+      item = 0;
+      request = PutIfAbsent (tcp 40001)
+          (claim 0 five);
+      reply = Done 3;
+    }
+    ∷ record {
+      stamp = 4;
+      shard = 0;
+      incarnation = 1;
+      item = 0;
+      request = PutIfAbsent (tcp 40001)
+          (claim 1 five);
+      reply = Found (claim 0 five) 3;
+    }
+    ∷ record {
+      stamp = 5;
+      shard = 0;
+      incarnation = 0;
+      item = 0;
+      request = PutIfAbsent (flow five)
+          (to 40001);
+      reply = Done 5;
+    }
+    ∷ record {
+      stamp = 6;
+      shard = 0;
+      incarnation = 1;
+      item = 0;
+      request = PutIfAbsent (tcp 40002)
+          (claim 1 five);
+      reply = Done 6;
+    }
+    ∷ record {
+      stamp = 7;
+      shard = 0;
+      incarnation = 1;
+      item = 0;
+      request = PutIfAbsent (flow five)
+          (to 40002);
+      reply = Found (to 40001) 5;
+    }
     ∷ []
 
 hang_scheduled : IsScheduled (setting_of hang_plan hang_lanes)
@@ -286,14 +388,42 @@ abbrev twice_journal : List Entry
 twice_journal =
     record { stamp = 1; shard = 0; incarnation = 0; item = 0; request = Read (flow five); reply = Absent }
     ∷ record { stamp = 2; shard = 0; incarnation = 1; item = 0; request = Read (flow five); reply = Absent }
-    ∷ record { stamp = 3; shard = 0; incarnation = 0; item = 0; request = PutIfAbsent (tcp 40000)
-        (claim 0 five); reply = Done 3 }
-    ∷ record { stamp = 4; shard = 0; incarnation = 1; item = 0; request = PutIfAbsent (tcp 40000)
-        (claim 1 five); reply = Found (claim 0 five) 3 }
-    ∷ record { stamp = 5; shard = 0; incarnation = 0; item = 0; request = PutIfAbsent (flow five)
-        (to 40000); reply = Done 5 }
-    ∷ record { stamp = 6; shard = 0; incarnation = 1; item = 0; request = Read (flow five); reply = Found
-        (to 40000) 5 }
+    ∷ record {
+      stamp = 3;
+      shard = 0;
+      incarnation = 0;
+      item = 0;
+      request = PutIfAbsent (tcp 40000)
+          (claim 0 five);
+      reply = Done 3;
+    }
+    ∷ record {
+      stamp = 4;
+      shard = 0;
+      incarnation = 1;
+      item = 0;
+      request = PutIfAbsent (tcp 40000)
+          (claim 1 five);
+      reply = Found (claim 0 five) 3;
+    }
+    ∷ record {
+      stamp = 5;
+      shard = 0;
+      incarnation = 0;
+      item = 0;
+      request = PutIfAbsent (flow five)
+          (to 40000);
+      reply = Done 5;
+    }
+    ∷ record {
+      stamp = 6;
+      shard = 0;
+      incarnation = 1;
+      item = 0;
+      request = Read (flow five);
+      reply = Found
+          (to 40000) 5;
+    }
     ∷ []
 
 twice_scheduled : IsScheduled (setting_of twice_plan twice_lanes)
@@ -337,13 +467,34 @@ abbrev starved_journal : List Entry
 starved_journal =
     record { stamp = 1; shard = 0; incarnation = 0; item = 0; request = Read (flow five); reply = Absent }
     ∷ record { stamp = 2; shard = 0; incarnation = 1; item = 0; request = Read (flow five); reply = Absent }
-    ∷ record { stamp = 3; shard = 0; incarnation = 0; item = 0; request = PutIfAbsent (tcp 40000)
-        (claim 0 five); reply = Done 3 }
-    ∷ record { stamp = 4; shard = 0; incarnation = 1; item = 0; request = PutIfAbsent (tcp 40000)
-        (claim 1 five); reply = Found (claim 0 five) 3 }
+    ∷ record {
+      stamp = 3;
+      shard = 0;
+      incarnation = 0;
+      item = 0;
+      request = PutIfAbsent (tcp 40000)
+          (claim 0 five);
+      reply = Done 3;
+    }
+    ∷ record {
+      stamp = 4;
+      shard = 0;
+      incarnation = 1;
+      item = 0;
+      request = PutIfAbsent (tcp 40000)
+          (claim 1 five);
+      reply = Found (claim 0 five) 3;
+    }
     ∷ record { stamp = 5; shard = 0; incarnation = 1; item = 0; request = Read (flow five); reply = Absent }
-    ∷ record { stamp = 6; shard = 0; incarnation = 0; item = 0; request = PutIfAbsent (flow five)
-        (to 40000); reply = Done 6 }
+    ∷ record {
+      stamp = 6;
+      shard = 0;
+      incarnation = 0;
+      item = 0;
+      request = PutIfAbsent (flow five)
+          (to 40000);
+      reply = Done 6;
+    }
     ∷ []
 
 starved_scheduled : IsScheduled (setting_of starved_plan starved_lanes)

@@ -22,8 +22,8 @@ pub nat_places : (nat : Nat) (begins : ℕ → ℕ → Stand NatFlight) (es : Li
     → HasPlaces (case_scene nat_case (nat_scene nat begins)) es
 nat_places nat begins es =
     places_looking (case_scene nat_case (nat_scene nat begins))
-        (λ first verdict. any_looks_back (nat_flight first) verdict) es
-        (λ es number first verdict. go es number verdict (nat_flight first))
+    (λ first verdict. any_looks_back (nat_flight first) verdict) es
+    (λ es number first verdict. go es number verdict (nat_flight first))
   where
     go : (es : List Entry) (number : ℕ) (verdict : Verdict) (own : Option NatFlight)
         → case_place (nat_scene nat begins) es number own verdict ≡ cond (any_looks_back own verdict)

@@ -30,7 +30,7 @@ pub item_flies : (P : NatFlight → Type 0) (pool : Pool) (base item : ℕ) (fir
     → sweep_item pool base item ≡ Flies first
     → (item < port_count pool → P (Sweep SweepPort Tcp (pool_port pool item) base))
     → (item - port_count pool < port_count pool → P
-        (Sweep SweepPort Udp (pool_port pool (item - port_count pool)) base))
+    (Sweep SweepPort Udp (pool_port pool (item - port_count pool)) base))
     → P first
 item_flies P pool base item first h tcp udp = go (nat_lt item (port_count pool))
     (nat_lt item (2 * port_count pool)) refl refl h
@@ -38,7 +38,7 @@ item_flies P pool base item first h tcp udp = go (nat_lt item (port_count pool))
     go : (b d : Bool) → nat_lt item (port_count pool) ≡ b → nat_lt item (2 * port_count pool) ≡ d
         → cond b (Flies (Sweep SweepPort Tcp (pool_port pool item) base))
         (cond d (Flies (Sweep SweepPort Udp (pool_port pool (item - port_count pool)) base)) (Ends None))
-            ≡ Flies first
+        ≡ Flies first
         → P first
     go true d w v h = subst P (same_flight _ first h) (tcp (ltb-true item (port_count pool) w))
     go false true w v h =
@@ -78,9 +78,9 @@ module _ (pool : Pool) (epochs : List Epoch) (lanes : List Lane) where
           let pairs : IsPair started.packet.source × IsPair started.packet.dest =
           lanes_fit lanes started.lane k started.packet started.captured in
           starts_as (IsRanged (nat_of pool) (own_base (eras_of epochs)) i) pool i k started.packet first started.start
-              (λ w. (refl, incarnation_fits epochs i r.actor fits.instances fits.few r.at, pairs.0, w)) (λ w v. (pairs.1, w, v))
+          (λ w. (refl, incarnation_fits epochs i r.actor fits.instances fits.few r.at, pairs.0, w)) (λ w v. (pairs.1, w, v))
       go (inr swept) =
           item_flies (IsRanged (nat_of pool) (own_base (eras_of epochs)) i) pool
-              (own_base (eras_of epochs) i) k first swept
-              (λ w. (port_fits pool types.outside_fits types.high_fits k w, refl))
-              (λ w. (port_fits pool types.outside_fits types.high_fits (k - port_count pool) w, refl))
+          (own_base (eras_of epochs) i) k first swept
+          (λ w. (port_fits pool types.outside_fits types.high_fits k w, refl))
+          (λ w. (port_fits pool types.outside_fits types.high_fits (k - port_count pool) w, refl))

@@ -135,19 +135,54 @@ to number = record { 0 = flow_to_number (record { outside = port number }) }
 abbrev journal : List Entry
 journal =
     record { stamp = 1; shard = 0; incarnation = 0; item = 0; request = Read (flow five); reply = Absent }
-    ∷ record { stamp = 2; shard = 0; incarnation = 0; item = 0; request = PutIfAbsent (tcp 40001)
-        (claim 0 five); reply = Done 2 }
+    ∷ record {
+      stamp = 2;
+      shard = 0;
+      incarnation = 0;
+      item = 0;
+      request = PutIfAbsent (tcp 40001)
+          (claim 0 five);
+      reply = Done 2;
+    }
     ∷ record { stamp = 3; shard = 0; incarnation = 1; item = 0; request = Read (flow six); reply = Absent }
-    ∷ record { stamp = 4; shard = 0; incarnation = 1; item = 0; request = PutIfAbsent (tcp 40000)
-        (claim 1 six); reply = Done 4 }
-    ∷ record { stamp = 5; shard = 0; incarnation = 2; item = 0; request = Read (tcp 40000); reply = Found
-        (claim 1 six) 4 }
-    ∷ record { stamp = 6; shard = 0; incarnation = 2; item = 1; request = Read (tcp 40001); reply = Found
-        (claim 0 five) 2 }
+    ∷ record {
+      stamp = 4;
+      shard = 0;
+      incarnation = 1;
+      item = 0;
+      request = PutIfAbsent (tcp 40000)
+          (claim 1 six);
+      reply = Done 4;
+    }
+    ∷ record {
+      stamp = 5;
+      shard = 0;
+      incarnation = 2;
+      item = 0;
+      request = Read (tcp 40000);
+      reply = Found
+          (claim 1 six) 4;
+    }
+    ∷ record {
+      stamp = 6;
+      shard = 0;
+      incarnation = 2;
+      item = 1;
+      request = Read (tcp 40001);
+      reply = Found
+          (claim 0 five) 2;
+    }
     ∷ record { stamp = 7; shard = 0; incarnation = 2; item = 1; request = Read (flow five); reply = Absent }
     ∷ record { stamp = 8; shard = 0; incarnation = 2; item = 1; request = DeleteIf (tcp 40001) 2; reply = Done 8 }
-    ∷ record { stamp = 9; shard = 0; incarnation = 1; item = 0; request = PutIfAbsent (flow six)
-        (to 40000); reply = Done 9 }
+    ∷ record {
+      stamp = 9;
+      shard = 0;
+      incarnation = 1;
+      item = 0;
+      request = PutIfAbsent (flow six)
+          (to 40000);
+      reply = Done 9;
+    }
     ∷ record { stamp = 10; shard = 0; incarnation = 2; item = 2; request = Read (udp 40000); reply = Absent }
     ∷ record { stamp = 11; shard = 0; incarnation = 2; item = 3; request = Read (udp 40001); reply = Absent }
     ∷ []

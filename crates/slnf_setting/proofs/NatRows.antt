@@ -66,14 +66,42 @@ back_lanes = lane_of (Seen packet_f ∷ []) refl ∷ lane_of (Seen answer ∷ []
 abbrev back_journal : List Entry
 back_journal =
     record { stamp = 1; shard = 0; incarnation = 0; item = 0; request = Read (flow five); reply = Absent }
-    ∷ record { stamp = 2; shard = 0; incarnation = 0; item = 0; request = PutIfAbsent (tcp 40001)
-        (claim 0 five); reply = Done 2 }
-    ∷ record { stamp = 3; shard = 0; incarnation = 0; item = 0; request = PutIfAbsent (flow five)
-        (to 40001); reply = Done 3 }
-    ∷ record { stamp = 4; shard = 0; incarnation = 1; item = 0; request = Read (tcp 40001); reply = Found
-        (claim 0 five) 2 }
-    ∷ record { stamp = 5; shard = 0; incarnation = 1; item = 0; request = Read (flow five); reply = Found
-        (to 40001) 3 }
+    ∷ record {
+      stamp = 2;
+      shard = 0;
+      incarnation = 0;
+      item = 0;
+      request = PutIfAbsent (tcp 40001)
+          (claim 0 five);
+      reply = Done 2;
+    }
+    ∷ record {
+      stamp = 3;
+      shard = 0;
+      incarnation = 0;
+      item = 0;
+      request = PutIfAbsent (flow five)
+          (to 40001);
+      reply = Done 3;
+    }
+    ∷ record {
+      stamp = 4;
+      shard = 0;
+      incarnation = 1;
+      item = 0;
+      request = Read (tcp 40001);
+      reply = Found
+          (claim 0 five) 2;
+    }
+    ∷ record {
+      stamp = 5;
+      shard = 0;
+      incarnation = 1;
+      item = 0;
+      request = Read (flow five);
+      reply = Found
+          (to 40001) 3;
+    }
     ∷ []
 
 back_scheduled : IsScheduled (setting_of back_plan back_lanes)
@@ -116,18 +144,39 @@ abbrev early_lanes : List Lane
 early_lanes = lane_of (Seen packet_f ∷ []) refl ∷ lane_of (Seen answer ∷ []) refl ∷ []
 
 abbrev early_second : Entry
-early_second = record { stamp = 3; shard = 0; incarnation = 1; item = 0; request = Read (tcp 40001); reply = Found
-    (claim 0 five) 2 }
+early_second = record {
+  stamp = 3;
+  shard = 0;
+  incarnation = 1;
+  item = 0;
+  request = Read (tcp 40001);
+  reply = Found
+      (claim 0 five) 2;
+}
 
 abbrev early_journal : List Entry
 early_journal =
     record { stamp = 1; shard = 0; incarnation = 0; item = 0; request = Read (flow five); reply = Absent }
-    ∷ record { stamp = 2; shard = 0; incarnation = 0; item = 0; request = PutIfAbsent (tcp 40001)
-        (claim 0 five); reply = Done 2 }
+    ∷ record {
+      stamp = 2;
+      shard = 0;
+      incarnation = 0;
+      item = 0;
+      request = PutIfAbsent (tcp 40001)
+          (claim 0 five);
+      reply = Done 2;
+    }
     ∷ early_second
     ∷ record { stamp = 4; shard = 0; incarnation = 1; item = 0; request = Read (flow five); reply = Absent }
-    ∷ record { stamp = 5; shard = 0; incarnation = 0; item = 0; request = PutIfAbsent (flow five)
-        (to 40001); reply = Done 5 }
+    ∷ record {
+      stamp = 5;
+      shard = 0;
+      incarnation = 0;
+      item = 0;
+      request = PutIfAbsent (flow five)
+          (to 40001);
+      reply = Done 5;
+    }
     ∷ []
 
 early_scheduled : IsScheduled (setting_of early_plan early_lanes)
@@ -182,13 +231,34 @@ full_lanes = lane_of (Seen packet_f ∷ Seen packet_g ∷ []) refl ∷ []
 abbrev full_journal : List Entry
 full_journal =
     record { stamp = 1; shard = 0; incarnation = 0; item = 0; request = Read (flow five); reply = Absent }
-    ∷ record { stamp = 2; shard = 0; incarnation = 0; item = 0; request = PutIfAbsent (tcp 40000)
-        (claim 0 five); reply = Done 2 }
-    ∷ record { stamp = 3; shard = 0; incarnation = 0; item = 0; request = PutIfAbsent (flow five)
-        (to 40000); reply = Done 3 }
+    ∷ record {
+      stamp = 2;
+      shard = 0;
+      incarnation = 0;
+      item = 0;
+      request = PutIfAbsent (tcp 40000)
+          (claim 0 five);
+      reply = Done 2;
+    }
+    ∷ record {
+      stamp = 3;
+      shard = 0;
+      incarnation = 0;
+      item = 0;
+      request = PutIfAbsent (flow five)
+          (to 40000);
+      reply = Done 3;
+    }
     ∷ record { stamp = 4; shard = 0; incarnation = 0; item = 1; request = Read (flow six); reply = Absent }
-    ∷ record { stamp = 5; shard = 0; incarnation = 0; item = 1; request = PutIfAbsent (tcp 40000)
-        (claim 0 six); reply = Found (claim 0 five) 2 }
+    ∷ record {
+      stamp = 5;
+      shard = 0;
+      incarnation = 0;
+      item = 1;
+      request = PutIfAbsent (tcp 40000)
+          (claim 0 six);
+      reply = Found (claim 0 five) 2;
+    }
     ∷ record { stamp = 6; shard = 0; incarnation = 0; item = 1; request = Read (flow six); reply = Absent }
     ∷ []
 

@@ -35,11 +35,11 @@ record IsAt (pool : Pool) (port : Pair) : Type 0 where
 place_of : (pool : Pool) (port : Pair) → has_pair pool port ≡ true → IsAt pool port
 place_of pool port h =
     let parts : ((port.addr == pool.outside) ≡ true)
-        × ((nat_le pool.low port.port && nat_le port.port pool.high) ≡ true) = and_parts (port.addr == pool.outside)
-        (nat_le pool.low port.port && nat_le port.port pool.high) h in
+    × ((nat_le pool.low port.port && nat_le port.port pool.high) ≡ true) = and_parts (port.addr == pool.outside)
+    (nat_le pool.low port.port && nat_le port.port pool.high) h in
     let bounds : (nat_le pool.low port.port ≡ true)
-        × (nat_le port.port pool.high ≡ true) = and_parts (nat_le pool.low port.port)
-        (nat_le port.port pool.high) parts.1 in
+    × (nat_le port.port pool.high ≡ true) = and_parts (nat_le pool.low port.port)
+    (nat_le port.port pool.high) parts.1 in
     let low : pool.low ≤ port.port = leb-true pool.low port.port bounds.0 in
     let high : port.port ≤ pool.high = leb-true port.port pool.high bounds.1 in
     record {
@@ -59,7 +59,7 @@ item_udp : (pool : Pool) (base place : ℕ) → place < port_count pool
 item_udp pool base place h =
     let behind : nat_lt (port_count pool + place) (port_count pool) ≡ false = grind (arith, nat_tests) in
     let within : nat_lt (port_count pool + place) (2 * port_count pool)
-        ≡ true = lt-ltb (port_count pool + place) (2 * port_count pool) (omega (arith, h)) in
+    ≡ true = lt-ltb (port_count pool + place) (2 * port_count pool) (omega (arith, h)) in
     let back : port_count pool + place - port_count pool ≡ place = omega arith in
     cond-false (nat_lt (port_count pool + place) (port_count pool)) _ _ behind
     ∙ cond-true (nat_lt (port_count pool + place) (2 * port_count pool)) _ _ within
@@ -79,14 +79,20 @@ module _ (pool : Pool) (eras : List Era) (lanes : List Lane) (i : ℕ) (actor : 
       go : (proto : Proto) → IsAt pool port
           → (k : ℕ) × (k < 2 * port_count pool) × (begins i k ≡ Flies (Sweep SweepPort proto port (own_base eras i)))
       go Tcp r =
-          let below : r.place < port_count pool = r.below in
-          (r.place, omega (arith, below), begins_item r.place ∙ item_tcp pool (own_base eras i) r.place r.below
-              ∙ ap (λ p. Flies (Sweep SweepPort Tcp p (own_base eras i))) r.is)
+          let below : r.place < port_count pool = r.below in (
+            r.place,
+            omega (arith, below),
+            begins_item r.place ∙ item_tcp pool (own_base eras i) r.place r.below
+                ∙ ap (λ p. Flies (Sweep SweepPort Tcp p (own_base eras i))) r.is,
+          )
       go Udp r =
-          let below : r.place < port_count pool = r.below in
-          (port_count pool + r.place, omega (arith, below), begins_item (port_count pool + r.place)
-              ∙ item_udp pool (own_base eras i) r.place r.below
-              ∙ ap (λ p. Flies (Sweep SweepPort Udp p (own_base eras i))) r.is)
+          let below : r.place < port_count pool = r.below in (
+            port_count pool + r.place,
+            omega (arith, below),
+            begins_item (port_count pool + r.place)
+                ∙ item_udp pool (own_base eras i) r.place r.below
+                ∙ ap (λ p. Flies (Sweep SweepPort Udp p (own_base eras i))) r.is,
+          )
 
   pub sweep_alone : (k : ℕ) → IsSweepItem (begins i k)
   sweep_alone k = subst IsSweepItem (sym (begins_item k))

@@ -71,9 +71,9 @@ module _ (pool : Pool) (shards batch : ℕ) (epochs : List Epoch) (lanes : List 
       → IsOneBoxWhole (case_setting nat_case own) (any_nat_box (nat_of pool)) IsSameFlows es
   nat_whole fits es run =
       case_whole nat_case own es (nat_box (nat_of pool)) IsSameFlows (nat_sound fits.apart)
-          (nat_places (nat_of pool) begins es) run
+      (nat_places (nat_of pool) begins es) run
       (nat_explained (nat_of pool) (plan_is_nat pool epochs fits) (own_base (eras_of epochs)) begins es
-          (nat_list fits es run))
+      (nat_list fits es run))
 
   -- the setting is one of which nothing leaks
   pub nat_setting_is : PlanFits (Nat pool) epochs → (es : List Entry)

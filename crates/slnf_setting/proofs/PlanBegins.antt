@@ -67,42 +67,45 @@ module _ (epochs : List Epoch) (lanes : List Lane) (number : ℕ) (epoch : Epoch
       front : (instances : List InstancePlan) (k : ℕ) → slice_get instances k ≡ Some i
           → slice_get (map instance_actor instances ++ sweep_actors epoch.sweep) k ≡ Some (instance_actor i)
       front [] k h = absurd (cc)
-      front (x ∷ instances) zero h = ap (λ (o : Option InstancePlan). elim o [ None ↦ None | Some y ↦ Some
-          (instance_actor y) ]) h
+      front (x ∷ instances) zero h = ap (λ (o : Option InstancePlan). elim o [
+        | None ↦ None
+        | Some y ↦ Some
+            (instance_actor y)
+      ]) h
       front (x ∷ instances) (suc k) h = front instances k h
 
   instance_by : (f : FunctionPlan) (k : ℕ) (i : InstancePlan) (item : ℕ) → slice_get epoch.instances k ≡ Some i
       → (scene_of f epochs lanes).begins (base_of (eras_of epochs) number + k) item
-          ≡ begins_with (any_starts f (Some epoch) (base_of (eras_of epochs) number + k) item)
+      ≡ begins_with (any_starts f (Some epoch) (base_of (eras_of epochs) number + k) item)
       (packet_at lanes item (Some i.lane))
   instance_by (Nat pool) k i item there =
       let eras : List Era = eras_of epochs in
       ap (stand_as NatFlies) (begins_at eras number k (era_of_epoch epoch) (instance_actor i) era_there
-          (instance_there k i there) lanes (nat_starts pool) (nat_sweeps pool eras) item)
+      (instance_there k i there) lanes (nat_starts pool) (nat_sweeps pool eras) item)
       ∙ taken_as NatFlies (nat_starts pool (base_of eras number + k) item) (packet_at lanes item (Some i.lane))
   instance_by (Firewall inside rules) k i item there =
       let eras : List Era = eras_of epochs in
       ap (stand_as FwFlies) (begins_at eras number k (era_of_epoch epoch) (instance_actor i) era_there
-          (instance_there k i there) lanes (fw_starts (policy_with inside rules)) no_sweeps item)
+      (instance_there k i there) lanes (fw_starts (policy_with inside rules)) no_sweeps item)
       ∙ taken_as FwFlies (fw_starts (policy_with inside rules) (base_of eras number + k) item)
-          (packet_at lanes item (Some i.lane))
+      (packet_at lanes item (Some i.lane))
   instance_by (Balancer service) k i item there =
       let eras : List Era = eras_of epochs in
       let own : era_of eras (base_of eras number + k)
-          ≡ number = era_at eras number k (era_of_epoch epoch) era_there
-          (slice_get_within (era_of_epoch epoch).actors k (instance_actor i) (instance_there k i there)) in
+      ≡ number = era_at eras number k (era_of_epoch epoch) era_there
+      (slice_get_within (era_of_epoch epoch).actors k (instance_actor i) (instance_there k i there)) in
       ap (stand_as LbFlies) (begins_at eras number k (era_of_epoch epoch) (instance_actor i) era_there
-          (instance_there k i there) lanes (lb_starts service epochs) no_sweeps item)
+      (instance_there k i there) lanes (lb_starts service epochs) no_sweeps item)
       ∙ taken_as LbFlies (lb_starts service epochs (base_of eras number + k) item)
-          (packet_at lanes item (Some i.lane))
+      (packet_at lanes item (Some i.lane))
       ∙ ap (λ (o : Option Epoch). begins_with (λ packet. start_as LbFlies
-          (lb_begins service (active_in service o) (base_of eras number + k) item packet))
-          (packet_at lanes item (Some i.lane))) (ap (slice_get epochs) own ∙ at)
+      (lb_begins service (active_in service o) (base_of eras number + k) item packet))
+      (packet_at lanes item (Some i.lane))) (ap (slice_get epochs) own ∙ at)
 
   -- the sweep stands behind the instances
   sweep_there : (stop : Option ℕ) → epoch.sweep ≡ Yes stop
       → slice_get (era_of_epoch epoch).actors (length epoch.instances)
-          ≡ Some (let a : Actor = record { lane = None; quota = None; stop = stop } in a)
+      ≡ Some (let a : Actor = record { lane = None; quota = None; stop = stop } in a)
   sweep_there stop is = behind epoch.instances ∙ ap (λ (s : SweepPlan). slice_get (sweep_actors s) 0) is
     where
       behind : (instances : List InstancePlan) → slice_get (map instance_actor instances ++ sweep_actors epoch.sweep)
@@ -112,21 +115,21 @@ module _ (epochs : List Epoch) (lanes : List Lane) (number : ℕ) (epoch : Epoch
 
   pub sweep_by : (pool : Pool) (stop : Option ℕ) (item : ℕ) → epoch.sweep ≡ Yes stop
       → (scene_of (Nat pool) epochs lanes).begins (base_of (eras_of epochs) number + length epoch.instances) item
-          ≡ stand_as NatFlies (sweep_item pool (base_of (eras_of epochs) number) item)
+      ≡ stand_as NatFlies (sweep_item pool (base_of (eras_of epochs) number) item)
   sweep_by pool stop item is =
       let eras : List Era = eras_of epochs in
       let actor : Actor = record { lane = None; quota = None; stop = stop } in
       ap (stand_as NatFlies)
       (begins_at eras number (length epoch.instances) (era_of_epoch epoch) actor era_there (sweep_there stop is) lanes
-          (nat_starts pool) (nat_sweeps pool eras) item
+      (nat_starts pool) (nat_sweeps pool eras) item
       ∙ ap (λ base. sweep_item pool base item) (own_base_is eras number (length epoch.instances)
-          (era_of_epoch epoch) actor era_there (sweep_there stop is)))
+      (era_of_epoch epoch) actor era_there (sweep_there stop is)))
 
 -- An instance's packet begins as it was captured, and as the plan's function starts it in the instance's epoch.
 pub instance_begins : (plan : Plan) (lanes : List Lane) (number k item : ℕ) (epoch : Epoch) (i : InstancePlan)
     → slice_get plan.epochs number ≡ Some epoch → slice_get epoch.instances k ≡ Some i
     → (setting_of plan lanes).scene.begins (base_of (eras_of plan.epochs) number + k) item
-        ≡ begins_with (any_starts plan.function (Some epoch) (base_of (eras_of plan.epochs) number + k) item)
+    ≡ begins_with (any_starts plan.function (Some epoch) (base_of (eras_of plan.epochs) number + k) item)
     (packet_at lanes item (Some i.lane))
 instance_begins plan lanes number k item epoch i at there =
     instance_by plan.epochs lanes number epoch at plan.function k i item there
@@ -135,8 +138,8 @@ instance_begins plan lanes number k item epoch i at there =
 pub sweep_begins : (plan : Plan) (lanes : List Lane) (number item : ℕ) (epoch : Epoch) (pool : Pool)
     (stop : Option ℕ) → plan.function ≡ Nat pool → slice_get plan.epochs number ≡ Some epoch → epoch.sweep ≡ Yes stop
     → (setting_of plan lanes).scene.begins (base_of (eras_of plan.epochs) number + length epoch.instances) item
-        ≡ stand_as NatFlies (sweep_item pool (base_of (eras_of plan.epochs) number) item)
+    ≡ stand_as NatFlies (sweep_item pool (base_of (eras_of plan.epochs) number) item)
 sweep_begins plan lanes number item epoch pool stop is at sweep =
     ap (λ f. (scene_of f plan.epochs lanes).begins
-        (base_of (eras_of plan.epochs) number + length epoch.instances) item) is
+    (base_of (eras_of plan.epochs) number + length epoch.instances) item) is
     ∙ sweep_by plan.epochs lanes number epoch at pool stop item sweep

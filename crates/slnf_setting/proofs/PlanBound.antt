@@ -59,7 +59,7 @@ lb_no_more service (Ends end) h = omega arith
 bounded : (f : FunctionPlan) (begins : ℕ → ℕ → Stand AnyFlight) (es : List Entry) → ShowsFailures f es
     → ((i k : ℕ) → length (own_of i k es) ≤ most_in f begins es i k)
     → ((items : List Item) → AreOf items es → length es ≤ sum_over
-        (most_in f begins es) items → length es ≤ length items * most_of f (length items))
+    (most_in f begins es) items → length es ≤ length items * most_of f (length items))
     → IsBoundedFor f begins es
 bounded f begins es shows each by_number = record {
   each = each;
@@ -81,40 +81,40 @@ pub bounded_by : (f : FunctionPlan) (epochs : List Epoch) (lanes : List Lane) (e
 bounded_by (Nat pool) epochs lanes es legal paths =
     bounded (Nat pool) (scene_of (Nat pool) epochs lanes).begins es tt (λ i k.
     nat_short (nat_of pool) (let some : 0 < pool.high - pool.low + 1 = omega arith in some)
-        (others_on (Nat pool) es i k) (begins_of (eras_of epochs) lanes (nat_starts pool)
-        (nat_sweeps pool (eras_of epochs)) i k) (own_of i k es)
+    (others_on (Nat pool) es i k) (begins_of (eras_of epochs) lanes (nat_starts pool)
+    (nat_sweeps pool (eras_of epochs)) i k) (own_of i k es)
     (own_paths nat_case (setting_with 1 1 epochs lanes 0 (nat_own pool epochs lanes)) es paths i k))
     (λ items among total. le_trans (length es) (sum_over
-        (most_in (Nat pool) (scene_of (Nat pool) epochs lanes).begins es) items)
-        (length items * (port_count pool + 3)) total
+    (most_in (Nat pool) (scene_of (Nat pool) epochs lanes).begins es) items)
+    (length items * (port_count pool + 3)) total
     (sum_most (most_in (Nat pool) (scene_of (Nat pool) epochs lanes).begins es) (port_count pool + 3) items
     (each_of_all (λ i k. most_in (Nat pool) (scene_of (Nat pool) epochs lanes).begins es i k ≤ port_count pool + 3)
-        (λ i k. nat_no_more pool ((scene_of (Nat pool) epochs lanes).begins i k)
-        (no_strays_by (Nat pool) epochs lanes i k [])) items)))
+    (λ i k. nat_no_more pool ((scene_of (Nat pool) epochs lanes).begins i k)
+    (no_strays_by (Nat pool) epochs lanes i k [])) items)))
 bounded_by (Firewall inside rules) epochs lanes es legal paths =
     let policy = policy_with inside rules in
     let own = own_paths fw_case (setting_with 1 1 epochs lanes 0 (fw_own policy epochs lanes)) es paths in
     bounded (Firewall inside rules) (scene_of (Firewall inside rules) epochs lanes).begins es
     (fw_failures policy (begins_of (eras_of epochs) lanes (fw_starts policy) no_sweeps) es
-        (fw_flights policy 1 1 epochs lanes) legal own) (λ i k.
+    (fw_flights policy 1 1 epochs lanes) legal own) (λ i k.
     fw_short policy (others_on (Firewall inside rules) es i k)
-        (begins_of (eras_of epochs) lanes (fw_starts policy) no_sweeps i k) (own_of i k es) (own i k) (λ first w.
+    (begins_of (eras_of epochs) lanes (fw_starts policy) no_sweeps i k) (own_of i k es) (own i k) (λ first w.
     (fw_bounded policy (begins_of (eras_of epochs) lanes (fw_starts policy) no_sweeps) es
-        (fw_flights policy 1 1 epochs lanes) legal own).each i k first w))
+    (fw_flights policy 1 1 epochs lanes) legal own).each i k first w))
     (λ items among total. (fw_bounded policy (begins_of (eras_of epochs) lanes (fw_starts policy) no_sweeps) es
-        (fw_flights policy 1 1 epochs lanes) legal own).total items among)
+    (fw_flights policy 1 1 epochs lanes) legal own).total items among)
 bounded_by (Balancer service) epochs lanes es legal paths =
     bounded (Balancer service) (scene_of (Balancer service) epochs lanes).begins es tt (λ i k.
     lb_short service 0 (others_on (Balancer service) es i k)
-        (begins_of (eras_of epochs) lanes (lb_starts service epochs) no_sweeps i k) (own_of i k es)
+    (begins_of (eras_of epochs) lanes (lb_starts service epochs) no_sweeps i k) (own_of i k es)
     (own_paths lb_case (setting_with 1 1 epochs lanes 0 (lb_own service epochs lanes)) es paths i k))
     (λ items among total. le_trans (length es) (sum_over
-        (most_in (Balancer service) (scene_of (Balancer service) epochs lanes).begins es) items)
-        (length items * 2) total
+    (most_in (Balancer service) (scene_of (Balancer service) epochs lanes).begins es) items)
+    (length items * 2) total
     (sum_most (most_in (Balancer service) (scene_of (Balancer service) epochs lanes).begins es) 2 items
     (each_of_all (λ i k. most_in (Balancer service) (scene_of (Balancer service) epochs lanes).begins es i k ≤ 2)
-        (λ i k. lb_no_more service ((scene_of (Balancer service) epochs lanes).begins i k)
-        (no_strays_by (Balancer service) epochs lanes i k [])) items)))
+    (λ i k. lb_no_more service ((scene_of (Balancer service) epochs lanes).begins i k)
+    (no_strays_by (Balancer service) epochs lanes i k [])) items)))
 
 -- The accesses of a plan's items are bounded, in each legal list of their paths.
 pub bounded_of_plan : (plan : Plan) (lanes : List Lane) (es : List Entry) → IsLegal es

@@ -56,7 +56,7 @@ module _ (pool : Pool) (shards batch : ℕ) (epochs : List Epoch) (lanes : List 
 runs_by : (plan : Plan) (lanes : List Lane) (es : List Entry) (f : FunctionPlan) (pool : Pool) → f ≡ Nat pool →
     PlanFits f plan.epochs →
     (let s : Setting AnyFlight Arrival =
-      setting_with plan.shards plan.batch plan.epochs lanes (sweep_items_of f) (scene_of f plan.epochs lanes) in
+    setting_with plan.shards plan.batch plan.epochs lanes (sweep_items_of f) (scene_of f plan.epochs lanes) in
     IsRun s es → NatRunsWell (nat_of pool) s.scene es)
 runs_by plan lanes es (Nat own) pool is fits run =
     let same : own ≡ pool = cc in

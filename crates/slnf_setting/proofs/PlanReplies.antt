@@ -55,9 +55,9 @@ there : (es before later : List Entry) (e : Entry) (value : Value) (version : �
     → (held : Held) × (map_after empty before (key_of e.request) ≡ Some held) × (held.value ≡ value)
 there es before later e value version legal split reply =
     let here : e.reply ≡ reply_to e.request e.stamp (map_after empty before (key_of e.request)) =
-        (legal-back empty before (e ∷ later) (subst IsLegal split legal)).0 in
+    (legal-back empty before (e ∷ later) (subst IsLegal split legal)).0 in
     let r = found_there e.request e.stamp (map_after empty before (key_of e.request)) value version
-        (sym here ∙ reply) in
+    (sym here ∙ reply) in
     (r.0, r.1, r.2)
 
 -- what a box keeps before an entry is what the map does
@@ -67,9 +67,9 @@ same_before : {F A C : Type 0} (s : Scene F A) (box : Box A C) (Same : C → Cel
 same_before s box Same es before later e explained split =
     let size : length before ≤ length es = rw split (simp length-append (omega arith)) in
     let front : take (length before) es ≡ before = ap (take (length before)) split
-        ∙ take-append_seam before (e ∷ later) in
+    ∙ take-append_seam before (e ∷ later) in
     subst (λ l. Same (content_after s box es (length before)) (map_after empty l)) front
-        (explained.maps (length before) size)
+    (explained.maps (length before) size)
 
 -- a connection's value that was found is one
 conn_well : (conns : Conns) (cells : Cells) (conn : ConnKey) (held : Held) → IsSameConns conns cells → IsConnKey conn
@@ -89,7 +89,7 @@ pin_well : (pins : Pins) (cells : Cells) (proto : Proto) (client : Pair) (held :
     → pin_of held.value.0 ≡ None → ⊥
 pin_well pins cells proto client held same fits at ill =
     let none : backend_in (cells (pin_key_number (record { proto = proto; client = client })))
-        ≡ None = ap backend_in at ∙ ap (option_map (λ (pin : Pin). pin.backend)) ill in
+    ≡ None = ap backend_in at ∙ ap (option_map (λ (pin : Pin). pin.backend)) ill in
     let no : Some held ≡ None = sym at ∙ same.whole proto client fits none in
     cc
 

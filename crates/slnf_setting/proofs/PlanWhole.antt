@@ -56,7 +56,7 @@ plan_sound plan lanes = sound_by plan.shards plan.batch plan.epochs lanes plan.f
 whole_by : (shards batch : ℕ) (epochs : List Epoch) (lanes : List Lane) (f : FunctionPlan) (es : List Entry) →
     PlanFits f epochs →
     (let s : Setting AnyFlight Arrival =
-      setting_with shards batch epochs lanes (sweep_items_of f) (scene_of f epochs lanes) in
+    setting_with shards batch epochs lanes (sweep_items_of f) (scene_of f epochs lanes) in
     IsRun s es → IsOneBoxBy f s es)
 whole_by shards batch epochs lanes (Nat pool) es fits run = nat_whole pool shards batch epochs lanes fits es run
 whole_by shards batch epochs lanes (Firewall inside rules) es fits run =
@@ -74,7 +74,7 @@ one_box_of_plan plan lanes es types run =
 leaks_by : (plan : Plan) (lanes : List Lane) (es : List Entry) (f : FunctionPlan) (pool : Pool) → f ≡ Nat pool →
     PlanFits f plan.epochs →
     (let s : Setting AnyFlight Arrival =
-      setting_with plan.shards plan.batch plan.epochs lanes (sweep_items_of f) (scene_of f plan.epochs lanes) in
+    setting_with plan.shards plan.batch plan.epochs lanes (sweep_items_of f) (scene_of f plan.epochs lanes) in
     IsRun s es → LeaksNothing (nat_of pool) (λ cells. cells) s es)
 leaks_by plan lanes es (Nat own) pool is fits run =
     let same : own ≡ pool = cc in
@@ -101,15 +101,15 @@ pub no_strays_by : (f : FunctionPlan) (epochs : List Epoch) (lanes : List Lane) 
     → IsStandOf f (stand_of (scene_of f epochs lanes) i k es)
 no_strays_by (Nat pool) epochs lanes i k es =
     subst (IsStandOf (Nat pool)) (sym (case_stand nat_case (nat_own pool epochs lanes) i k es))
-        (function_stand (Nat pool) NatFlies (λ flight. tt) (stand_of (nat_own pool epochs lanes) i k es))
+    (function_stand (Nat pool) NatFlies (λ flight. tt) (stand_of (nat_own pool epochs lanes) i k es))
 no_strays_by (Firewall inside rules) epochs lanes i k es =
     subst (IsStandOf (Firewall inside rules))
     (sym (case_stand fw_case (fw_own (policy_with inside rules) epochs lanes) i k es))
-        (function_stand (Firewall inside rules) FwFlies (λ flight. tt)
-        (stand_of (fw_own (policy_with inside rules) epochs lanes) i k es))
+    (function_stand (Firewall inside rules) FwFlies (λ flight. tt)
+    (stand_of (fw_own (policy_with inside rules) epochs lanes) i k es))
 no_strays_by (Balancer service) epochs lanes i k es =
     subst (IsStandOf (Balancer service)) (sym (case_stand lb_case (lb_own service epochs lanes) i k es))
-        (function_stand (Balancer service) LbFlies (λ flight. tt) (stand_of (lb_own service epochs lanes) i k es))
+    (function_stand (Balancer service) LbFlies (λ flight. tt) (stand_of (lb_own service epochs lanes) i k es))
 
 pub no_strays : (plan : Plan) (lanes : List Lane) (i k : ℕ) (es : List Entry)
     → IsStandOf plan.function (stand_of (setting_of plan lanes).scene i k es)

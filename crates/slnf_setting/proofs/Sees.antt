@@ -103,21 +103,21 @@ sees_by : (f : FunctionPlan) (epochs : List Epoch) (lanes : List Lane) → SeesL
     (eras_of epochs) lanes
 sees_by (Nat pool) epochs lanes i k lane actor first e at on h =
     of_case NatFlies (begins_of (eras_of epochs) lanes (nat_starts pool) (nat_sweeps pool (eras_of epochs)) i k) first
-        (λ x. packet_at lanes k (Some lane) ≡ Some (Seen (((scene_of (Nat pool) epochs lanes).arrival x e).packet)))
+    (λ x. packet_at lanes k (Some lane) ≡ Some (Seen (((scene_of (Nat pool) epochs lanes).arrival x e).packet)))
     (sees_own (eras_of epochs) lanes (nat_starts pool) (nat_sweeps pool (eras_of epochs)) packet_of
-        (nat_sees pool) i k lane actor at on) h
+    (nat_sees pool) i k lane actor at on) h
 sees_by (Firewall inside rules) epochs lanes i k lane actor first e at on h =
     of_case FwFlies (begins_of (eras_of epochs) lanes (fw_starts (policy_with inside rules)) no_sweeps i k) first
-        (λ x. packet_at lanes k (Some lane) ≡ Some
-        (Seen (((scene_of (Firewall inside rules) epochs lanes).arrival x e).packet)))
+    (λ x. packet_at lanes k (Some lane) ≡ Some
+    (Seen (((scene_of (Firewall inside rules) epochs lanes).arrival x e).packet)))
     (sees_own (eras_of epochs) lanes (fw_starts (policy_with inside rules)) no_sweeps (λ f. f.packet)
-        (fw_sees inside rules) i k lane actor at on) h
+    (fw_sees inside rules) i k lane actor at on) h
 sees_by (Balancer service) epochs lanes i k lane actor first e at on h =
     of_case LbFlies (begins_of (eras_of epochs) lanes (lb_starts service epochs) no_sweeps i k) first
-        (λ x. packet_at lanes k (Some lane) ≡ Some
-        (Seen (((scene_of (Balancer service) epochs lanes).arrival x e).packet)))
+    (λ x. packet_at lanes k (Some lane) ≡ Some
+    (Seen (((scene_of (Balancer service) epochs lanes).arrival x e).packet)))
     (sees_own (eras_of epochs) lanes (lb_starts service epochs) no_sweeps (λ f. f.packet)
-        (lb_sees service epochs) i k lane actor at on) h
+    (lb_sees service epochs) i k lane actor at on) h
 
 pub plan_sees_lanes : (plan : Plan) (lanes : List Lane)
     → SeesLanes (setting_of plan lanes).scene (eras_of plan.epochs) lanes

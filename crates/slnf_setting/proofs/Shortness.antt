@@ -22,7 +22,7 @@ path_short m size falls st [] h = omega arith
 path_short m size falls (Flies flight) (e ∷ own) h =
     let fall : suc (size_at size (m.goes flight e.reply)) ≤ size flight = falls flight e.reply in
     let rest : length own ≤ size_at size (m.goes flight e.reply) = path_short m size falls
-        (m.goes flight e.reply) own h.1 in
+    (m.goes flight e.reply) own h.1 in
     omega arith
 path_short m size falls (Ends end) (e ∷ own) h = absurd h.0
 
@@ -44,6 +44,6 @@ pub total_by : (most : ℕ → ℕ → ℕ) (items : List Item) (es : List Entry
     → ((i k : ℕ) → length (own_of i k es) ≤ most i k) → length es ≤ sum_over most items
 total_by most items es among each =
     let covers : Covers (λ e. true) items es = each-weaker (λ e. is_of_items items e ≡ true)
-        (λ e. true ≡ true → is_of_items items e ≡ true) (λ e h t. h) es among in
+    (λ e. true ≡ true → is_of_items items e ≡ true) (λ e h t. h) es among in
     subst (λ n. n ≤ sum_over most items) (ap length (all_pass es))
-        (count_sum most items (λ e. true) es covers (λ item. each item.incarnation item.number))
+    (count_sum most items (λ e. true) es covers (λ item. each item.incarnation item.number))

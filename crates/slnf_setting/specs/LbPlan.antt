@@ -14,4 +14,4 @@ use Rattle.slnf_setting.specs.Actors.{eras_of}
 abbrev pub lb_starts : Service → List Epoch → ℕ → ℕ → Packet → Start Flying
 lb_starts service epochs incarnation number packet =
     lb_begins service (active_in service (slice_get epochs
-        (era_of (eras_of epochs) incarnation))) incarnation number packet
+    (era_of (eras_of epochs) incarnation))) incarnation number packet

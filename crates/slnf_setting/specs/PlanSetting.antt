@@ -128,4 +128,4 @@ setting_with shards batch epochs lanes sweep_items scene = record {
 abbrev pub setting_of : Plan → List Lane → Setting AnyFlight Arrival
 setting_of plan lanes =
     setting_with plan.shards plan.batch plan.epochs lanes (sweep_items_of plan.function)
-        (scene_of plan.function plan.epochs lanes)
+    (scene_of plan.function plan.epochs lanes)
