@@ -18,7 +18,6 @@ use Rattle.slnf_run.specs.Run.{IsRun}
 use Rattle.slnf_run.specs.Items.{Item, sum_over}
 use Rattle.slnf_run.specs.Keeps.{HasPaths}
 use Rattle.slnf_run.specs.Images.{stand_as}
-use Rattle.slnf_run.proofs.Runs.{paths_of_run}
 use Rattle.slnf_run.specs.OneBox.{IsSound}
 use Rattle.slnf_flight.specs.declared.lanes.Lane.{Lane}
 use Rattle.slnf_setting.specs.Lanes.{lane_sizes}
@@ -186,7 +185,8 @@ pub fewer_of_items : (plan : Plan) (lanes : List Lane) (packets sweeps : List It
     → IsTrue (has_types plan.function) → total_of (lane_sizes lanes) ≤ 2 ^ 20 → IsLegal es
     → HasPaths (setting_of plan lanes).scene es → AreItemsOf (setting_of plan lanes) packets sweeps es
     → length es < 2 ^ 41
-fewer_of_items plan lanes ps ws es types few legal paths are = few_by plan lanes es ps ws few legal plan.function types paths are
+fewer_of_items plan lanes ps ws es types few legal paths are =
+    few_by plan lanes es ps ws few legal plan.function types paths are
 
 -- and each run is one.
 pub items_of_run : (plan : Plan) (lanes : List Lane) (es : List Entry) → IsRun (setting_of plan lanes) es

@@ -1,5 +1,5 @@
 -- A worked run: two lanes of one connection, where a replace fails.
-use Rattle.std.proofs.Common.{◌≡◌, ℕ, true, false, Some, None, List, [], ◌∷◌, refl, arith}
+use Rattle.std.proofs.Common.{◌≡◌, ℕ, Bool, true, false, Some, None, List, [], ◌∷◌, refl, arith}
 use Rattle.slnf_base.specs.declared.addresses.Pair.{Pair}
 use Rattle.slnf_base.specs.declared.addresses.Prefix.{Prefix}
 use Rattle.slnf_base.specs.declared.packets.Proto.TheVariants.{Tcp}
@@ -20,6 +20,8 @@ use Rattle.slnf_fw_table.specs.declared.rules.Rule.{Rule}
 use Rattle.slnf_plan.specs.declared.plan.FunctionPlan.TheVariants.{Firewall}
 use Rattle.slnf_plan.specs.declared.plan.SweepPlan.TheVariants.{No}
 use Rattle.slnf_plan.specs.declared.plan.Plan.{Plan}
+use Rattle.slnf_run.specs.Visits.{visits_of}
+use Rattle.slnf_run.specs.Boxes.{content_after}
 use Rattle.slnf_run.specs.Run.{IsRun}
 use Rattle.slnf_run.specs.Verdicts.{verdicts_of}
 use Rattle.slnf_run.specs.Scheduled.{usual_way, IsScheduled}
@@ -33,51 +35,39 @@ use Rattle.slnf_setting.specs.Flights.{FwFlies}
 use Rattle.slnf_setting.specs.FwPlan.{policy_with}
 use Rattle.slnf_setting.specs.PlanSetting.{setting_of}
 use Rattle.slnf_setting.proofs.PlanSchedules.{run_of_schedule}
-use Rattle.slnf_setting.proofs.RowParts.{lane_of, epoch_of, on_lane}
-use Rattle.slnf_setting.specs.OneBoxOfPlan.{IsOneBoxOfPlan}
+use Rattle.slnf_setting.proofs.RowParts.{lane_of, epoch_of, on_lane, entry, plan_of}
+use Rattle.slnf_setting.specs.OneBoxOfPlan.{any_fw_box, IsOneBoxOfPlan}
 use Rattle.slnf_setting.proofs.PlanWhole.{one_box_of_plan}
 
 -- 10.0.0.0/8
 abbrev pub ten : Prefix
 ten = record { addr = 167772160; bits = 8; within = omega arith; zeros_after = refl }
 
--- all TCP goes out
-abbrev pub all_out : Rule
-all_out = record {
+-- packets between any addresses to these ports may open
+abbrev pub between_any : (outbound : Bool) (proto low high : ℕ) → Rule
+between_any outbound proto low high = record {
   permit = true;
-  outbound = true;
-  proto = 6;
+  outbound = outbound;
+  proto = proto;
   source = 0;
   source_bits = 0;
   dest = 0;
   dest_bits = 0;
-  low = 0;
-  high = 65535;
+  low = low;
+  high = high;
   source_within = omega arith;
   source_zeros_after = refl;
   dest_within = omega arith;
   dest_zeros_after = refl;
 }
 
+-- all TCP goes out
+abbrev pub all_out : Rule
+all_out = between_any true 6 0 65535
+
 abbrev plan : Plan
-plan = record {
-  function = Firewall ten (all_out ∷ []);
-  shards = 1;
-  batch = 1;
-  epochs = epoch_of (on_lane 0 ∷ on_lane 1 ∷ []) [] No (0 ∷ 0 ∷ 1 ∷ 1 ∷ 0 ∷ 0 ∷ 0 ∷ 1 ∷ 0 ∷ 1 ∷ 1 ∷ []) ∷ [];
-  some_shards = omega arith;
-  few_shards = omega arith;
-  some_batch = omega arith;
-  few_batch = omega arith;
-  some_epochs = omega arith;
-  few_epochs = omega arith;
-  function_fits = refl;
-  instances_fit = refl;
-  lanes_apart = refl;
-  places_fit = refl;
-  sweeps_fit = refl;
-  actors_fit = refl;
-}
+plan = plan_of (Firewall ten (all_out ∷ [])) 1 1
+    (epoch_of (on_lane 0 ∷ on_lane 1 ∷ []) [] No (0 ∷ 0 ∷ 1 ∷ 1 ∷ 0 ∷ 0 ∷ 0 ∷ 1 ∷ 0 ∷ 1 ∷ 1 ∷ []) ∷ []) refl
 
 -- 10.0.0.5:5000 and 198.51.100.7:80
 abbrev pub client : Pair
@@ -123,65 +113,17 @@ value state = fw_value (record { by_outside = false; state = state })
 
 abbrev journal : List Entry
 journal =
-    record { stamp = 1; shard = 0; incarnation = 0; item = 0; request = Read key; reply = Absent }
-    ∷ record {
-      stamp = 2;
-      shard = 0;
-      incarnation = 0;
-      item = 0;
-      request = PutIfAbsent key
-          (value SynSent);
-      reply = Done 2;
-    }
-    ∷ record { stamp = 3; shard = 0; incarnation = 1; item = 0; request = Read key; reply = Found (value SynSent) 2 }
-    ∷ record {
-      stamp = 4;
-      shard = 0;
-      incarnation = 1;
-      item = 0;
-      request = ReplaceIf key 2
-          (value SynAcked);
-      reply = Done 4;
-    }
-    ∷ record { stamp = 5; shard = 0; incarnation = 0; item = 1; request = Read key; reply = Found (value SynAcked) 4 }
-    ∷ record {
-      stamp = 6;
-      shard = 0;
-      incarnation = 0;
-      item = 1;
-      request = ReplaceIf key 4
-          (value Opened);
-      reply = Done 6;
-    }
-    ∷ record { stamp = 7; shard = 0; incarnation = 0; item = 2; request = Read key; reply = Found (value Opened) 6 }
-    ∷ record { stamp = 8; shard = 0; incarnation = 1; item = 1; request = Read key; reply = Found (value Opened) 6 }
-    ∷ record {
-      stamp = 9;
-      shard = 0;
-      incarnation = 0;
-      item = 2;
-      request = ReplaceIf key 6
-          (value FinByOpener);
-      reply = Done 9;
-    }
-    ∷ record {
-      stamp = 10;
-      shard = 0;
-      incarnation = 1;
-      item = 1;
-      request = ReplaceIf key 6
-          (value FinByOther);
-      reply = Found (value FinByOpener) 9;
-    }
-    ∷ record {
-      stamp = 11;
-      shard = 0;
-      incarnation = 1;
-      item = 1;
-      request = ReplaceIf key 9
-          (value BothFin);
-      reply = Done 11;
-    }
+    entry 1 0 0 (Read key) Absent
+    ∷ entry 2 0 0 (PutIfAbsent key (value SynSent)) (Done 2)
+    ∷ entry 3 1 0 (Read key) (Found (value SynSent) 2)
+    ∷ entry 4 1 0 (ReplaceIf key 2 (value SynAcked)) (Done 4)
+    ∷ entry 5 0 1 (Read key) (Found (value SynAcked) 4)
+    ∷ entry 6 0 1 (ReplaceIf key 4 (value Opened)) (Done 6)
+    ∷ entry 7 0 2 (Read key) (Found (value Opened) 6)
+    ∷ entry 8 1 1 (Read key) (Found (value Opened) 6)
+    ∷ entry 9 0 2 (ReplaceIf key 6 (value FinByOpener)) (Done 9)
+    ∷ entry 10 1 1 (ReplaceIf key 6 (value FinByOther)) (Found (value FinByOpener) 9)
+    ∷ entry 11 1 1 (ReplaceIf key 9 (value BothFin)) (Done 11)
     ∷ []
 
 -- the schedule makes the journal
@@ -193,6 +135,23 @@ verdicts : verdicts_of (setting_of plan lanes) journal
     ≡ (Emit Keep ∷ Emit Keep ∷ Emit Keep ∷ Dropped Short ∷ Dropped Neither ∷ []) ∷ (Emit Keep ∷ Emit Keep ∷ []) ∷ []
 unfolding conn_key_number single_number key_number pair_number conn_number conn_of pair_of pair_at
 verdicts = refl
+
+-- the box sees the server's FIN at the replace that is done, and not at the one that fails
+place : visits_of (setting_of plan lanes).scene journal 10 (entry 11 1 1 (ReplaceIf key 9 (value BothFin)) (Done 11))
+    ≡ record { arrival = record { packet = coming 17; choice = None; time = 0 }; verdict = Some (Emit Keep) } ∷ []
+unfolding conn_key_number single_number key_number pair_number conn_number conn_of pair_of pair_at
+place = refl
+
+no_place : visits_of (setting_of plan lanes).scene journal 9
+    (entry 10 1 1 (ReplaceIf key 6 (value FinByOther)) (Found (value FinByOpener) 9)) ≡ []
+unfolding conn_key_number single_number key_number pair_number conn_number conn_of pair_of pair_at
+no_place = refl
+
+content : content_after (setting_of plan lanes).scene (any_fw_box (policy_with ten (all_out ∷ []))) journal 11
+    (record { proto = Tcp; inside = client; outside = server })
+    ≡ Some (record { by_outside = false; state = BothFin })
+unfolding conn_key_number single_number key_number pair_number conn_number conn_of pair_of pair_at
+content = refl
 
 pub run : IsRun (setting_of plan lanes) journal
 run = run_of_schedule plan lanes journal scheduled (omega arith)

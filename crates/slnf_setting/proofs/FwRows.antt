@@ -1,5 +1,5 @@
 -- More worked runs of a firewall: UDP opened from the outside, refusals, and a reopening by the other side.
-use Rattle.std.proofs.Common.{◌≡◌, ℕ, ◌+◌, ◌*◌, ◌^◌, true, false, None, List, [], ◌∷◌, refl, arith}
+use Rattle.std.proofs.Common.{◌≡◌, ℕ, ◌+◌, ◌*◌, ◌^◌, false, List, [], ◌∷◌, refl}
 use Rattle.slnf_base.specs.declared.addresses.Pair.{Pair}
 use Rattle.slnf_base.specs.declared.packets.Proto.TheVariants.{Tcp, Udp}
 use Rattle.slnf_base.specs.declared.packets.Change.TheVariants.{Keep}
@@ -21,38 +21,21 @@ use Rattle.slnf_plan.specs.declared.plan.SweepPlan.TheVariants.{No}
 use Rattle.slnf_plan.specs.declared.plan.Plan.{Plan}
 use Rattle.slnf_run.specs.Verdicts.{verdicts_of}
 use Rattle.slnf_run.specs.Scheduled.{usual_way, IsScheduled}
-use Rattle.slnf_setting.proofs.FwRow.{ten, all_out, client, server}
+use Rattle.slnf_setting.proofs.FwRow.{ten, between_any, all_out, client, server}
 use Rattle.slnf_flight.specs.declared.lanes.Taken.TheVariants.{Seen}
 use Rattle.slnf_flight.specs.declared.lanes.Lane.{Lane}
 use Rattle.slnf_setting.specs.PlanSetting.{setting_of}
-use Rattle.slnf_setting.proofs.RowParts.{lane_of, epoch_of, on_lane}
+use Rattle.slnf_setting.proofs.RowParts.{lane_of, epoch_of, on_lane, entry, plan_of}
 
 -- inbound TCP to port 5000, and inbound UDP
 abbrev tcp_in : Rule
-tcp_in = record { permit = true; outbound = false; proto = 6; source = 0; source_bits = 0; dest = 0; dest_bits = 0; low = 5000; high = 5000; source_within = omega arith; source_zeros_after = refl; dest_within = omega arith; dest_zeros_after = refl }
+tcp_in = between_any false 6 5000 5000
 
 abbrev udp_in : Rule
-udp_in = record { permit = true; outbound = false; proto = 17; source = 0; source_bits = 0; dest = 0; dest_bits = 0; low = 0; high = 65535; source_within = omega arith; source_zeros_after = refl; dest_within = omega arith; dest_zeros_after = refl }
+udp_in = between_any false 17 0 65535
 
 abbrev plan : Plan
-plan = record {
-  function = Firewall ten (all_out ∷ tcp_in ∷ udp_in ∷ []);
-  shards = 1;
-  batch = 1;
-  epochs = epoch_of (on_lane 0 ∷ []) [] No [] ∷ [];
-  some_shards = omega arith;
-  few_shards = omega arith;
-  some_batch = omega arith;
-  few_batch = omega arith;
-  some_epochs = omega arith;
-  few_epochs = omega arith;
-  function_fits = refl;
-  instances_fit = refl;
-  lanes_apart = refl;
-  places_fit = refl;
-  sweeps_fit = refl;
-  actors_fit = refl;
-}
+plan = plan_of (Firewall ten (all_out ∷ tcp_in ∷ udp_in ∷ [])) 1 1 (epoch_of (on_lane 0 ∷ []) [] No [] ∷ []) refl
 
 abbrev other : Pair
 other = record { addr = 167772165; port = 5001 }
@@ -84,7 +67,7 @@ abbrev val : ℕ → Value
 val n = record { 0 = n }
 
 abbrev en : ℕ → ℕ → Request → Reply → Entry
-en stamp item request reply = record { stamp = stamp; shard = 0; incarnation = 0; item = item; request = request; reply = reply }
+en stamp item = entry stamp 0 item
 
 abbrev journal : List Entry
 journal =
@@ -110,6 +93,7 @@ unfolding conn_key_number single_number key_number pair_number conn_number conn_
 scheduled = record { accesses = journal; made = (15, ((refl, tt), refl)); sorted = refl }
 
 verdicts : verdicts_of (setting_of plan lanes) journal
-    ≡ (Emit Keep ∷ Emit Keep ∷ Emit Keep ∷ Dropped DeniedState ∷ Emit Keep ∷ Emit Keep ∷ Emit Keep ∷ Dropped DeniedRule ∷ Dropped DeniedRule ∷ Dropped NoConn ∷ []) ∷ []
+    ≡ (Emit Keep ∷ Emit Keep ∷ Emit Keep ∷ Dropped DeniedState ∷ Emit Keep ∷ Emit Keep ∷ Emit Keep
+    ∷ Dropped DeniedRule ∷ Dropped DeniedRule ∷ Dropped NoConn ∷ []) ∷ []
 unfolding conn_key_number single_number key_number pair_number conn_number conn_of pair_of pair_at
 verdicts = refl

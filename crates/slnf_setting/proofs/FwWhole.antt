@@ -1,13 +1,10 @@
 -- One ordinary firewall explains each run of a firewall's plan, with all that is written.
-use Rattle.std.proofs.Common.{◌≡◌, ◌⊎◌, inl, inr, ℕ, Bool, true, false, cond, Option, Some, None, List, refl, subst}
+use Rattle.std.proofs.Common.{◌≡◌, ◌⊎◌, inl, inr, ℕ, true, Option, Some, None, List, refl}
 use Rattle.std.specs.List.{list_all}
 use Rattle.slnf_base.specs.declared.packets.Packet.{Packet}
-use Rattle.slnf_base.specs.declared.packets.Reason.TheVariants.{Neither}
 use Rattle.slnf_access.specs.declared.requests.Entry.{Entry}
 use Rattle.slnf_access.specs.declared.requests.Reply.{Reply}
 use Rattle.slnf_access.specs.declared.requests.Reply.TheVariants.{Done, Found, Absent}
-use Rattle.slnf_access.specs.declared.functions.Start.{Start}
-use Rattle.slnf_access.specs.declared.functions.Start.TheVariants.{Go as StartGo, Over as StartOver}
 use Rattle.slnf_access.specs.Machines.{Flies, stand_of_step}
 use Rattle.slnf_base.specs.Ranges.{IsPair}
 use Rattle.slnf_plan.specs.declared.plan.Epoch.{Epoch}
@@ -18,7 +15,7 @@ use Rattle.slnf_access.proofs.Orders.{rises_in_order}
 use Rattle.slnf_run.specs.OneBox.{EndsWell, IsSound, IsOneBoxWhole}
 use Rattle.slnf_fw.specs.declared.flights.Tracked.{Tracked}
 use Rattle.slnf_fw.specs.Conns.{tracked_of}
-use Rattle.slnf_fw.specs.Packets.{Policy, crosses}
+use Rattle.slnf_fw.specs.Packets.{Policy}
 use Rattle.slnf_fw.specs.declared.choices.Choice.{Choice}
 use Rattle.slnf_fw.specs.declared.choices.Choice.TheVariants.{Refuses, Passes, Writes}
 use Rattle.slnf_fw.specs.Choices.{choice_of}

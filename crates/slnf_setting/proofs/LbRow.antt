@@ -1,5 +1,5 @@
 -- A worked run: two instances of a balancer, each with a packet of one client.
-use Rattle.std.proofs.Common.{◌≡◌, None, List, [], ◌∷◌, refl, arith}
+use Rattle.std.proofs.Common.{◌≡◌, Some, None, List, [], ◌∷◌, refl, arith}
 use Rattle.slnf_base.specs.declared.addresses.Pair.{Pair}
 use Rattle.slnf_base.specs.declared.packets.Proto.TheVariants.{Udp}
 use Rattle.slnf_base.specs.declared.packets.Packet.{Packet}
@@ -16,6 +16,8 @@ use Rattle.slnf_keys.specs.Values.{pin_number, pin_of}
 use Rattle.slnf_plan.specs.declared.plan.FunctionPlan.TheVariants.{Balancer}
 use Rattle.slnf_plan.specs.declared.plan.SweepPlan.TheVariants.{No}
 use Rattle.slnf_plan.specs.declared.plan.Plan.{Plan}
+use Rattle.slnf_run.specs.Visits.{visits_of}
+use Rattle.slnf_run.specs.Boxes.{content_after}
 use Rattle.slnf_run.specs.Run.{IsRun}
 use Rattle.slnf_run.specs.Verdicts.{verdicts_of}
 use Rattle.slnf_run.specs.Scheduled.{usual_way, IsScheduled}
@@ -26,8 +28,8 @@ use Rattle.slnf_flight.specs.declared.lanes.Lane.{Lane}
 use Rattle.slnf_setting.specs.Flights.{LbFlies}
 use Rattle.slnf_setting.specs.PlanSetting.{setting_of}
 use Rattle.slnf_setting.proofs.PlanSchedules.{run_of_schedule}
-use Rattle.slnf_setting.proofs.RowParts.{lane_of, epoch_of, on_lane}
-use Rattle.slnf_setting.specs.OneBoxOfPlan.{IsOneBoxOfPlan}
+use Rattle.slnf_setting.proofs.RowParts.{lane_of, epoch_of, on_lane, entry, plan_of}
+use Rattle.slnf_setting.specs.OneBoxOfPlan.{any_lb_box, IsOneBoxOfPlan}
 use Rattle.slnf_setting.proofs.PlanWhole.{one_box_of_plan}
 
 -- 198.51.100.10:53, 192.0.2.1:4000, 10.1.0.1:53 and 10.1.0.2:53
@@ -47,24 +49,8 @@ abbrev pub service : Service
 service = record { proto = Udp; front = front; backends = first ∷ second ∷ [] }
 
 abbrev plan : Plan
-plan = record {
-  function = Balancer service;
-  shards = 1;
-  batch = 1;
-  epochs = epoch_of (on_lane 0 ∷ on_lane 1 ∷ []) (0 ∷ 1 ∷ []) No (0 ∷ 1 ∷ 0 ∷ 1 ∷ []) ∷ [];
-  some_shards = omega arith;
-  few_shards = omega arith;
-  some_batch = omega arith;
-  few_batch = omega arith;
-  some_epochs = omega arith;
-  few_epochs = omega arith;
-  function_fits = refl;
-  instances_fit = refl;
-  lanes_apart = refl;
-  places_fit = refl;
-  sweeps_fit = refl;
-  actors_fit = refl;
-}
+plan = plan_of (Balancer service) 1 1
+    (epoch_of (on_lane 0 ∷ on_lane 1 ∷ []) (0 ∷ 1 ∷ []) No (0 ∷ 1 ∷ 0 ∷ 1 ∷ []) ∷ []) refl
 
 abbrev packet : Packet
 packet = record { proto = Udp; source = client; dest = front; flags = 0 }
@@ -86,26 +72,10 @@ nobody = refl
 
 abbrev journal : List Entry
 journal =
-    record { stamp = 1; shard = 0; incarnation = 0; item = 0; request = Read (pin_key Udp client); reply = Absent }
-    ∷ record { stamp = 2; shard = 0; incarnation = 1; item = 0; request = Read (pin_key Udp client); reply = Absent }
-    ∷ record {
-      stamp = 3;
-      shard = 0;
-      incarnation = 0;
-      item = 0;
-      request = PutIfAbsent (pin_key Udp client)
-          (pin_value first);
-      reply = Done 3;
-    }
-    ∷ record {
-      stamp = 4;
-      shard = 0;
-      incarnation = 1;
-      item = 0;
-      request = PutIfAbsent (pin_key Udp client)
-          (pin_value second);
-      reply = Found (pin_value first) 3;
-    }
+    entry 1 0 0 (Read (pin_key Udp client)) Absent
+    ∷ entry 2 1 0 (Read (pin_key Udp client)) Absent
+    ∷ entry 3 0 0 (PutIfAbsent (pin_key Udp client) (pin_value first)) (Done 3)
+    ∷ entry 4 1 0 (PutIfAbsent (pin_key Udp client) (pin_value second)) (Found (pin_value first) 3)
     ∷ []
 
 -- the schedule makes the journal
@@ -117,6 +87,20 @@ scheduled = record { accesses = journal; made = (0, ((refl, (refl, tt)), refl));
 verdicts : verdicts_of (setting_of plan lanes) journal ≡ (Emit (Dest first) ∷ []) ∷ (Emit (Dest first) ∷ []) ∷ []
 unfolding pin_key_number single_number key_number pair_number pin_number pin_of pair_of pair_at
 verdicts = refl
+
+-- the box sees the second packet at its put, with its own choice, and gives it the first packet's backend
+place : visits_of (setting_of plan lanes).scene journal 3
+    (entry 4 1 0 (PutIfAbsent (pin_key Udp client) (pin_value second)) (Found (pin_value first) 3))
+    ≡ record {
+      arrival = record { packet = packet; choice = Some second; time = 0 };
+      verdict = Some (Emit (Dest first));
+    } ∷ []
+unfolding pin_key_number single_number key_number pair_number pin_number pin_of pair_of pair_at
+place = refl
+
+content : content_after (setting_of plan lanes).scene (any_lb_box service) journal 4 Udp client ≡ Some first
+unfolding pin_key_number single_number key_number pair_number pin_number pin_of pair_of pair_at
+content = refl
 
 pub run : IsRun (setting_of plan lanes) journal
 run = run_of_schedule plan lanes journal scheduled (omega arith)

@@ -1,5 +1,5 @@
 -- Worked runs of a balancer: a return, batches, two shards, and a drain.
-use Rattle.std.proofs.Common.{◌≡◌, Some, None, List, [], ◌∷◌, refl, arith}
+use Rattle.std.proofs.Common.{◌≡◌, List, [], ◌∷◌, refl, arith}
 use Rattle.slnf_base.specs.declared.addresses.Pair.{Pair}
 use Rattle.slnf_base.specs.declared.packets.Proto.TheVariants.{Udp}
 use Rattle.slnf_base.specs.declared.packets.Change.TheVariants.{Source, Dest}
@@ -23,7 +23,7 @@ use Rattle.slnf_flight.specs.declared.lanes.Taken.TheVariants.{Seen}
 use Rattle.slnf_flight.specs.declared.lanes.Lane.{Lane}
 use Rattle.slnf_setting.specs.PlanSetting.{setting_of}
 use Rattle.slnf_setting.proofs.PlanSchedules.{run_of_schedule}
-use Rattle.slnf_setting.proofs.RowParts.{lane_of, epoch_of, on_lane, with_quota}
+use Rattle.slnf_setting.proofs.RowParts.{lane_of, epoch_of, on_lane, with_quota, entry, plan_of}
 use Rattle.slnf_setting.specs.OneBoxOfPlan.{IsOneBoxOfPlan}
 use Rattle.slnf_setting.proofs.PlanWhole.{one_box_of_plan}
 
@@ -39,67 +39,18 @@ coming from = Seen (record { proto = Udp; source = from; dest = client; flags = 
 -- ---- two packets of a client, and one from each backend
 
 abbrev return_plan : Plan
-return_plan = record {
-  function = Balancer service;
-  shards = 1;
-  batch = 1;
-  epochs = epoch_of (on_lane 0 ∷ []) (0 ∷ 1 ∷ []) No [] ∷ [];
-  some_shards = omega arith;
-  few_shards = omega arith;
-  some_batch = omega arith;
-  few_batch = omega arith;
-  some_epochs = omega arith;
-  few_epochs = omega arith;
-  function_fits = refl;
-  instances_fit = refl;
-  lanes_apart = refl;
-  places_fit = refl;
-  sweeps_fit = refl;
-  actors_fit = refl;
-}
+return_plan = plan_of (Balancer service) 1 1 (epoch_of (on_lane 0 ∷ []) (0 ∷ 1 ∷ []) No [] ∷ []) refl
 
 abbrev return_lanes : List Lane
 return_lanes = lane_of (going client ∷ going client ∷ coming first ∷ coming second ∷ []) refl ∷ []
 
 abbrev return_journal : List Entry
 return_journal =
-    record { stamp = 1; shard = 0; incarnation = 0; item = 0; request = Read (pin_key Udp client); reply = Absent }
-    ∷ record {
-      stamp = 2;
-      shard = 0;
-      incarnation = 0;
-      item = 0;
-      request = PutIfAbsent (pin_key Udp client)
-          (pin_value first);
-      reply = Done 2;
-    }
-    ∷ record {
-      stamp = 3;
-      shard = 0;
-      incarnation = 0;
-      item = 1;
-      request = Read (pin_key Udp client);
-      reply = Found
-          (pin_value first) 2;
-    }
-    ∷ record {
-      stamp = 4;
-      shard = 0;
-      incarnation = 0;
-      item = 2;
-      request = Read (pin_key Udp client);
-      reply = Found
-          (pin_value first) 2;
-    }
-    ∷ record {
-      stamp = 5;
-      shard = 0;
-      incarnation = 0;
-      item = 3;
-      request = Read (pin_key Udp client);
-      reply = Found
-          (pin_value first) 2;
-    }
+    entry 1 0 0 (Read (pin_key Udp client)) Absent
+    ∷ entry 2 0 0 (PutIfAbsent (pin_key Udp client) (pin_value first)) (Done 2)
+    ∷ entry 3 0 1 (Read (pin_key Udp client)) (Found (pin_value first) 2)
+    ∷ entry 4 0 2 (Read (pin_key Udp client)) (Found (pin_value first) 2)
+    ∷ entry 5 0 3 (Read (pin_key Udp client)) (Found (pin_value first) 2)
     ∷ []
 
 return_scheduled : IsScheduled (setting_of return_plan return_lanes)
@@ -119,67 +70,18 @@ return_boxed = one_box_of_plan return_plan return_lanes return_journal refl
 -- ---- batches of three packets, of which none has a first key twice
 
 abbrev batch_plan : Plan
-batch_plan = record {
-  function = Balancer service;
-  shards = 1;
-  batch = 3;
-  epochs = epoch_of (on_lane 0 ∷ []) (0 ∷ 1 ∷ []) No [] ∷ [];
-  some_shards = omega arith;
-  few_shards = omega arith;
-  some_batch = omega arith;
-  few_batch = omega arith;
-  some_epochs = omega arith;
-  few_epochs = omega arith;
-  function_fits = refl;
-  instances_fit = refl;
-  lanes_apart = refl;
-  places_fit = refl;
-  sweeps_fit = refl;
-  actors_fit = refl;
-}
+batch_plan = plan_of (Balancer service) 1 3 (epoch_of (on_lane 0 ∷ []) (0 ∷ 1 ∷ []) No [] ∷ []) refl
 
 abbrev batch_lanes : List Lane
 batch_lanes = lane_of (going client ∷ going next_client ∷ going client ∷ []) refl ∷ []
 
 abbrev batch_journal : List Entry
 batch_journal =
-    record { stamp = 1; shard = 0; incarnation = 0; item = 0; request = Read (pin_key Udp client); reply = Absent }
-    ∷ record {
-      stamp = 2;
-      shard = 0;
-      incarnation = 0;
-      item = 1;
-      request = Read
-          (pin_key Udp next_client);
-      reply = Absent;
-    }
-    ∷ record {
-      stamp = 3;
-      shard = 0;
-      incarnation = 0;
-      item = 0;
-      request = PutIfAbsent (pin_key Udp client)
-          (pin_value first);
-      reply = Done 3;
-    }
-    ∷ record {
-      stamp = 4;
-      shard = 0;
-      incarnation = 0;
-      item = 1;
-      request = PutIfAbsent (pin_key Udp next_client)
-          (pin_value second);
-      reply = Done 4;
-    }
-    ∷ record {
-      stamp = 5;
-      shard = 0;
-      incarnation = 0;
-      item = 2;
-      request = Read (pin_key Udp client);
-      reply = Found
-          (pin_value first) 3;
-    }
+    entry 1 0 0 (Read (pin_key Udp client)) Absent
+    ∷ entry 2 0 1 (Read (pin_key Udp next_client)) Absent
+    ∷ entry 3 0 0 (PutIfAbsent (pin_key Udp client) (pin_value first)) (Done 3)
+    ∷ entry 4 0 1 (PutIfAbsent (pin_key Udp next_client) (pin_value second)) (Done 4)
+    ∷ entry 5 0 2 (Read (pin_key Udp client)) (Found (pin_value first) 3)
     ∷ []
 
 batch_scheduled : IsScheduled (setting_of batch_plan batch_lanes)
@@ -199,31 +101,15 @@ batch_boxed = one_box_of_plan batch_plan batch_lanes batch_journal refl
 -- ---- two shards
 
 abbrev shard_plan : Plan
-shard_plan = record {
-  function = Balancer service;
-  shards = 2;
-  batch = 1;
-  epochs = epoch_of (on_lane 0 ∷ on_lane 1 ∷ []) (0 ∷ 1 ∷ []) No (0 ∷ 1 ∷ 0 ∷ 1 ∷ []) ∷ [];
-  some_shards = omega arith;
-  few_shards = omega arith;
-  some_batch = omega arith;
-  few_batch = omega arith;
-  some_epochs = omega arith;
-  few_epochs = omega arith;
-  function_fits = refl;
-  instances_fit = refl;
-  lanes_apart = refl;
-  places_fit = refl;
-  sweeps_fit = refl;
-  actors_fit = refl;
-}
+shard_plan = plan_of (Balancer service) 2 1
+    (epoch_of (on_lane 0 ∷ on_lane 1 ∷ []) (0 ∷ 1 ∷ []) No (0 ∷ 1 ∷ 0 ∷ 1 ∷ []) ∷ []) refl
 
 abbrev shard_lanes : List Lane
 shard_lanes = lane_of (going client ∷ []) refl ∷ lane_of (going next_client ∷ []) refl ∷ []
 
 abbrev shard_journal : List Entry
 shard_journal =
-    record { stamp = 1; shard = 0; incarnation = 0; item = 0; request = Read (pin_key Udp client); reply = Absent }
+    entry 1 0 0 (Read (pin_key Udp client)) Absent
     ∷ record {
       stamp = 1;
       shard = 1;
@@ -233,15 +119,7 @@ shard_journal =
           (pin_key Udp next_client);
       reply = Absent;
     }
-    ∷ record {
-      stamp = 2;
-      shard = 0;
-      incarnation = 0;
-      item = 0;
-      request = PutIfAbsent (pin_key Udp client)
-          (pin_value first);
-      reply = Done 2;
-    }
+    ∷ entry 2 0 0 (PutIfAbsent (pin_key Udp client) (pin_value first)) (Done 2)
     ∷ record {
       stamp = 2;
       shard = 1;
@@ -270,67 +148,19 @@ shard_boxed = one_box_of_plan shard_plan shard_lanes shard_journal refl
 -- ---- quotas: three packets in the first epoch, one in the next, and one is left
 
 abbrev drain_plan : Plan
-drain_plan = record {
-  function = Balancer service;
-  shards = 1;
-  batch = 1;
-  epochs = epoch_of (with_quota 0 3 ∷ []) (0 ∷ 1 ∷ []) No [] ∷ epoch_of (with_quota 0 1 ∷ []) (0 ∷ 1 ∷ []) No [] ∷ [];
-  some_shards = omega arith;
-  few_shards = omega arith;
-  some_batch = omega arith;
-  few_batch = omega arith;
-  some_epochs = omega arith;
-  few_epochs = omega arith;
-  function_fits = refl;
-  instances_fit = refl;
-  lanes_apart = refl;
-  places_fit = refl;
-  sweeps_fit = refl;
-  actors_fit = refl;
-}
+drain_plan = plan_of (Balancer service) 1 1
+    (epoch_of (with_quota 0 3 ∷ []) (0 ∷ 1 ∷ []) No [] ∷ epoch_of (with_quota 0 1 ∷ []) (0 ∷ 1 ∷ []) No [] ∷ []) refl
 
 abbrev drain_lanes : List Lane
 drain_lanes = lane_of (going client ∷ going client ∷ going client ∷ going client ∷ going client ∷ []) refl ∷ []
 
 abbrev drain_journal : List Entry
 drain_journal =
-    record { stamp = 1; shard = 0; incarnation = 0; item = 0; request = Read (pin_key Udp client); reply = Absent }
-    ∷ record {
-      stamp = 2;
-      shard = 0;
-      incarnation = 0;
-      item = 0;
-      request = PutIfAbsent (pin_key Udp client)
-          (pin_value first);
-      reply = Done 2;
-    }
-    ∷ record {
-      stamp = 3;
-      shard = 0;
-      incarnation = 0;
-      item = 1;
-      request = Read (pin_key Udp client);
-      reply = Found
-          (pin_value first) 2;
-    }
-    ∷ record {
-      stamp = 4;
-      shard = 0;
-      incarnation = 0;
-      item = 2;
-      request = Read (pin_key Udp client);
-      reply = Found
-          (pin_value first) 2;
-    }
-    ∷ record {
-      stamp = 5;
-      shard = 0;
-      incarnation = 1;
-      item = 3;
-      request = Read (pin_key Udp client);
-      reply = Found
-          (pin_value first) 2;
-    }
+    entry 1 0 0 (Read (pin_key Udp client)) Absent
+    ∷ entry 2 0 0 (PutIfAbsent (pin_key Udp client) (pin_value first)) (Done 2)
+    ∷ entry 3 0 1 (Read (pin_key Udp client)) (Found (pin_value first) 2)
+    ∷ entry 4 0 2 (Read (pin_key Udp client)) (Found (pin_value first) 2)
+    ∷ entry 5 1 3 (Read (pin_key Udp client)) (Found (pin_value first) 2)
     ∷ []
 
 drain_scheduled : IsScheduled (setting_of drain_plan drain_lanes)

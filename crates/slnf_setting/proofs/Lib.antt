@@ -35,3 +35,5 @@ pub mod LbRows
 pub mod NatRows
 pub mod NatMoreRows
 pub mod FwRows
+pub mod WrongRows
+pub mod NatWrongRows

@@ -24,83 +24,27 @@ use Rattle.slnf_flight.specs.declared.lanes.Lane.{Lane}
 use Rattle.slnf_nat.specs.Pools.{nat_of}
 use Rattle.slnf_setting.specs.PlanSetting.{setting_of}
 use Rattle.slnf_setting.proofs.PlanSchedules.{run_of_schedule}
-use Rattle.slnf_setting.proofs.RowParts.{lane_of, epoch_of, on_lane, with_stop}
+use Rattle.slnf_setting.proofs.RowParts.{lane_of, epoch_of, on_lane, with_stop, entry, plan_of}
 use Rattle.slnf_setting.specs.OneBoxOfPlan.{IsOneBoxOfPlan}
 use Rattle.slnf_setting.proofs.PlanWhole.{one_box_of_plan}
 
 abbrev race_plan : Plan
-race_plan = record {
-  function = Nat wide;
-  shards = 1;
-  batch = 1;
-  epochs = epoch_of (on_lane 0 ∷ on_lane 1 ∷ []) [] No (0 ∷ 1 ∷ 0 ∷ 1 ∷ 0 ∷ 1 ∷ 1 ∷ 1 ∷ []) ∷ [];
-  some_shards = omega arith;
-  few_shards = omega arith;
-  some_batch = omega arith;
-  few_batch = omega arith;
-  some_epochs = omega arith;
-  few_epochs = omega arith;
-  function_fits = refl;
-  instances_fit = refl;
-  lanes_apart = refl;
-  places_fit = refl;
-  sweeps_fit = refl;
-  actors_fit = refl;
-}
+race_plan = plan_of (Nat wide) 1 1
+    (epoch_of (on_lane 0 ∷ on_lane 1 ∷ []) [] No (0 ∷ 1 ∷ 0 ∷ 1 ∷ 0 ∷ 1 ∷ 1 ∷ 1 ∷ []) ∷ []) refl
 
 abbrev race_lanes : List Lane
 race_lanes = lane_of (Seen packet_f ∷ []) refl ∷ lane_of (Seen packet_f ∷ []) refl ∷ []
 
 abbrev race_journal : List Entry
 race_journal =
-    record { stamp = 1; shard = 0; incarnation = 0; item = 0; request = Read (flow five); reply = Absent }
-    ∷ record { stamp = 2; shard = 0; incarnation = 1; item = 0; request = Read (flow five); reply = Absent }
-    ∷ record {
-      stamp = 3;
-      shard = 0;
-      incarnation = 0;
-      item = 0;
-      request = PutIfAbsent (tcp 40001)
-          (claim 0 five);
-      reply = Done 3;
-    }
-    ∷ record {
-      stamp = 4;
-      shard = 0;
-      incarnation = 1;
-      item = 0;
-      request = PutIfAbsent (tcp 40001)
-          (claim 1 five);
-      reply = Found (claim 0 five) 3;
-    }
-    ∷ record {
-      stamp = 5;
-      shard = 0;
-      incarnation = 0;
-      item = 0;
-      request = PutIfAbsent (flow five)
-          (to 40001);
-      reply = Done 5;
-    }
-    ∷ record {
-      stamp = 6;
-      shard = 0;
-      incarnation = 1;
-      item = 0;
-      request = PutIfAbsent (tcp 40002)
-          (claim 1 five);
-      reply = Done 6;
-    }
-    ∷ record {
-      stamp = 7;
-      shard = 0;
-      incarnation = 1;
-      item = 0;
-      request = PutIfAbsent (flow five)
-          (to 40002);
-      reply = Found (to 40001) 5;
-    }
-    ∷ record { stamp = 8; shard = 0; incarnation = 1; item = 0; request = DeleteIf (tcp 40002) 6; reply = Done 8 }
+    entry 1 0 0 (Read (flow five)) Absent
+    ∷ entry 2 1 0 (Read (flow five)) Absent
+    ∷ entry 3 0 0 (PutIfAbsent (tcp 40001) (claim 0 five)) (Done 3)
+    ∷ entry 4 1 0 (PutIfAbsent (tcp 40001) (claim 1 five)) (Found (claim 0 five) 3)
+    ∷ entry 5 0 0 (PutIfAbsent (flow five) (to 40001)) (Done 5)
+    ∷ entry 6 1 0 (PutIfAbsent (tcp 40002) (claim 1 five)) (Done 6)
+    ∷ entry 7 1 0 (PutIfAbsent (flow five) (to 40002)) (Found (to 40001) 5)
+    ∷ entry 8 1 0 (DeleteIf (tcp 40002) 6) (Done 8)
     ∷ []
 
 race_scheduled : IsScheduled (setting_of race_plan race_lanes)
@@ -118,14 +62,7 @@ race_boxed = one_box_of_plan race_plan race_lanes race_journal refl
     (run_of_schedule race_plan race_lanes race_journal race_scheduled (omega arith))
 
 race_place : visits_of (setting_of race_plan race_lanes).scene race_journal 6
-    (record {
-      stamp = 7;
-      shard = 0;
-      incarnation = 1;
-      item = 0;
-      request = PutIfAbsent (flow five) (to 40002);
-      reply = Found (to 40001) 5;
-    })
+    (entry 7 1 0 (PutIfAbsent (flow five) (to 40002)) (Found (to 40001) 5))
     ≡ record {
       arrival = record { packet = packet_f; choice = None; time = 0 };
       verdict = Some (Emit (Source (port 40001)));
@@ -134,58 +71,18 @@ unfolding flow_key_number port_key_number single_number key_number pair_number f
 race_place = refl
 
 abbrev pub record_plan : Plan
-record_plan = record {
-  function = Nat wide;
-  shards = 1;
-  batch = 1;
-  epochs = epoch_of (with_stop 0 3 ∷ []) [] No [] ∷ epoch_of (on_lane 0 ∷ []) [] No [] ∷ [];
-  some_shards = omega arith;
-  few_shards = omega arith;
-  some_batch = omega arith;
-  few_batch = omega arith;
-  some_epochs = omega arith;
-  few_epochs = omega arith;
-  function_fits = refl;
-  instances_fit = refl;
-  lanes_apart = refl;
-  places_fit = refl;
-  sweeps_fit = refl;
-  actors_fit = refl;
-}
+record_plan = plan_of (Nat wide) 1 1
+    (epoch_of (with_stop 0 3 ∷ []) [] No [] ∷ epoch_of (on_lane 0 ∷ []) [] No [] ∷ []) refl
 
 abbrev pub record_lanes : List Lane
 record_lanes = lane_of (Seen packet_f ∷ Seen packet_f ∷ []) refl ∷ []
 
 abbrev pub record_journal : List Entry
 record_journal =
-    record { stamp = 1; shard = 0; incarnation = 0; item = 0; request = Read (flow five); reply = Absent }
-    ∷ record {
-      stamp = 2;
-      shard = 0;
-      incarnation = 0;
-      item = 0;
-      request = PutIfAbsent (tcp 40001)
-          (claim 0 five);
-      reply = Done 2;
-    }
-    ∷ record {
-      stamp = 3;
-      shard = 0;
-      incarnation = 0;
-      item = 0;
-      request = PutIfAbsent (flow five)
-          (to 40001);
-      reply = Done 3;
-    }
-    ∷ record {
-      stamp = 4;
-      shard = 0;
-      incarnation = 1;
-      item = 1;
-      request = Read (flow five);
-      reply = Found
-          (to 40001) 3;
-    }
+    entry 1 0 0 (Read (flow five)) Absent
+    ∷ entry 2 0 0 (PutIfAbsent (tcp 40001) (claim 0 five)) (Done 2)
+    ∷ entry 3 0 0 (PutIfAbsent (flow five) (to 40001)) (Done 3)
+    ∷ entry 4 1 1 (Read (flow five)) (Found (to 40001) 3)
     ∷ []
 
 record_scheduled : IsScheduled (setting_of record_plan record_lanes)
@@ -208,14 +105,7 @@ record_boxed = one_box_of_plan record_plan record_lanes record_journal refl
     (run_of_schedule record_plan record_lanes record_journal record_scheduled (omega arith))
 
 record_place : visits_of (setting_of record_plan record_lanes).scene record_journal 2
-    (record {
-      stamp = 3;
-      shard = 0;
-      incarnation = 0;
-      item = 0;
-      request = PutIfAbsent (flow five) (to 40001);
-      reply = Done 3;
-    })
+    (entry 3 0 0 (PutIfAbsent (flow five) (to 40001)) (Done 3))
     ≡ record {
       arrival = record { packet = packet_f; choice = Some (port 40001); time = 0 };
       verdict = Some (Emit (Source (port 40001)));
@@ -224,40 +114,15 @@ unfolding flow_key_number port_key_number single_number key_number pair_number f
 record_place = refl
 
 abbrev claimed_plan : Plan
-claimed_plan = record {
-  function = Nat wide;
-  shards = 1;
-  batch = 1;
-  epochs = epoch_of (with_stop 0 2 ∷ []) [] No [] ∷ [];
-  some_shards = omega arith;
-  few_shards = omega arith;
-  some_batch = omega arith;
-  few_batch = omega arith;
-  some_epochs = omega arith;
-  few_epochs = omega arith;
-  function_fits = refl;
-  instances_fit = refl;
-  lanes_apart = refl;
-  places_fit = refl;
-  sweeps_fit = refl;
-  actors_fit = refl;
-}
+claimed_plan = plan_of (Nat wide) 1 1 (epoch_of (with_stop 0 2 ∷ []) [] No [] ∷ []) refl
 
 abbrev claimed_lanes : List Lane
 claimed_lanes = lane_of (Seen packet_f ∷ []) refl ∷ []
 
 abbrev claimed_journal : List Entry
 claimed_journal =
-    record { stamp = 1; shard = 0; incarnation = 0; item = 0; request = Read (flow five); reply = Absent }
-    ∷ record {
-      stamp = 2;
-      shard = 0;
-      incarnation = 0;
-      item = 0;
-      request = PutIfAbsent (tcp 40001)
-          (claim 0 five);
-      reply = Done 2;
-    }
+    entry 1 0 0 (Read (flow five)) Absent
+    ∷ entry 2 0 0 (PutIfAbsent (tcp 40001) (claim 0 five)) (Done 2)
     ∷ []
 
 claimed_scheduled : IsScheduled (setting_of claimed_plan claimed_lanes)
@@ -274,77 +139,21 @@ claimed_boxed = one_box_of_plan claimed_plan claimed_lanes claimed_journal refl
     (run_of_schedule claimed_plan claimed_lanes claimed_journal claimed_scheduled (omega arith))
 
 abbrev hang_plan : Plan
-hang_plan = record {
-  function = Nat wide;
-  shards = 1;
-  batch = 1;
-  epochs = epoch_of (on_lane 0 ∷ with_stop 1 4 ∷ []) [] No (0 ∷ 1 ∷ 0 ∷ 1 ∷ 0 ∷ 1 ∷ 1 ∷ 1 ∷ []) ∷ [];
-  some_shards = omega arith;
-  few_shards = omega arith;
-  some_batch = omega arith;
-  few_batch = omega arith;
-  some_epochs = omega arith;
-  few_epochs = omega arith;
-  function_fits = refl;
-  instances_fit = refl;
-  lanes_apart = refl;
-  places_fit = refl;
-  sweeps_fit = refl;
-  actors_fit = refl;
-}
+hang_plan = plan_of (Nat wide) 1 1
+    (epoch_of (on_lane 0 ∷ with_stop 1 4 ∷ []) [] No (0 ∷ 1 ∷ 0 ∷ 1 ∷ 0 ∷ 1 ∷ 1 ∷ 1 ∷ []) ∷ []) refl
 
 abbrev hang_lanes : List Lane
 hang_lanes = lane_of (Seen packet_f ∷ []) refl ∷ lane_of (Seen packet_f ∷ []) refl ∷ []
 
 abbrev hang_journal : List Entry
 hang_journal =
-    record { stamp = 1; shard = 0; incarnation = 0; item = 0; request = Read (flow five); reply = Absent }
-    ∷ record { stamp = 2; shard = 0; incarnation = 1; item = 0; request = Read (flow five); reply = Absent }
-    ∷ record {
-      stamp = 3;
-      shard = 0;
-      incarnation = 0;
-      item = 0;
-      request = PutIfAbsent (tcp 40001)
-          (claim 0 five);
-      reply = Done 3;
-    }
-    ∷ record {
-      stamp = 4;
-      shard = 0;
-      incarnation = 1;
-      item = 0;
-      request = PutIfAbsent (tcp 40001)
-          (claim 1 five);
-      reply = Found (claim 0 five) 3;
-    }
-    ∷ record {
-      stamp = 5;
-      shard = 0;
-      incarnation = 0;
-      item = 0;
-      request = PutIfAbsent (flow five)
-          (to 40001);
-      reply = Done 5;
-    }
-    ∷ record {
-      stamp = 6;
-      shard = 0;
-      incarnation = 1;
-      item = 0;
-      request = PutIfAbsent (tcp 40002)
-          (claim 1 five);
-      reply = Done 6;
-    }
-    ∷ record {
-      stamp = 7;
-      shard = 0;
-      incarnation = 1;
-      item = 0;
-      request = PutIfAbsent (flow five)
-          (to 40002);
-      reply = Found (to 40001) 5;
-    }
+    entry 1 0 0 (Read (flow five)) Absent
+    ∷ entry 2 1 0 (Read (flow five)) Absent
+    ∷ entry 3 0 0 (PutIfAbsent (tcp 40001) (claim 0 five)) (Done 3)
+    ∷ entry 4 1 0 (PutIfAbsent (tcp 40001) (claim 1 five)) (Found (claim 0 five) 3)
+    ∷ entry 5 0 0 (PutIfAbsent (flow five) (to 40001)) (Done 5)
+    ∷ entry 6 1 0 (PutIfAbsent (tcp 40002) (claim 1 five)) (Done 6)
+    ∷ entry 7 1 0 (PutIfAbsent (flow five) (to 40002)) (Found (to 40001) 5)
     ∷ []
 
 hang_scheduled : IsScheduled (setting_of hang_plan hang_lanes)
@@ -362,68 +171,20 @@ hang_boxed = one_box_of_plan hang_plan hang_lanes hang_journal refl
     (run_of_schedule hang_plan hang_lanes hang_journal hang_scheduled (omega arith))
 
 abbrev twice_plan : Plan
-twice_plan = record {
-  function = Nat narrow;
-  shards = 1;
-  batch = 1;
-  epochs = epoch_of (on_lane 0 ∷ on_lane 1 ∷ []) [] No (0 ∷ 1 ∷ 0 ∷ 1 ∷ 0 ∷ 1 ∷ []) ∷ [];
-  some_shards = omega arith;
-  few_shards = omega arith;
-  some_batch = omega arith;
-  few_batch = omega arith;
-  some_epochs = omega arith;
-  few_epochs = omega arith;
-  function_fits = refl;
-  instances_fit = refl;
-  lanes_apart = refl;
-  places_fit = refl;
-  sweeps_fit = refl;
-  actors_fit = refl;
-}
+twice_plan = plan_of (Nat narrow) 1 1
+    (epoch_of (on_lane 0 ∷ on_lane 1 ∷ []) [] No (0 ∷ 1 ∷ 0 ∷ 1 ∷ 0 ∷ 1 ∷ []) ∷ []) refl
 
 abbrev twice_lanes : List Lane
 twice_lanes = lane_of (Seen packet_f ∷ []) refl ∷ lane_of (Seen packet_f ∷ []) refl ∷ []
 
 abbrev twice_journal : List Entry
 twice_journal =
-    record { stamp = 1; shard = 0; incarnation = 0; item = 0; request = Read (flow five); reply = Absent }
-    ∷ record { stamp = 2; shard = 0; incarnation = 1; item = 0; request = Read (flow five); reply = Absent }
-    ∷ record {
-      stamp = 3;
-      shard = 0;
-      incarnation = 0;
-      item = 0;
-      request = PutIfAbsent (tcp 40000)
-          (claim 0 five);
-      reply = Done 3;
-    }
-    ∷ record {
-      stamp = 4;
-      shard = 0;
-      incarnation = 1;
-      item = 0;
-      request = PutIfAbsent (tcp 40000)
-          (claim 1 five);
-      reply = Found (claim 0 five) 3;
-    }
-    ∷ record {
-      stamp = 5;
-      shard = 0;
-      incarnation = 0;
-      item = 0;
-      request = PutIfAbsent (flow five)
-          (to 40000);
-      reply = Done 5;
-    }
-    ∷ record {
-      stamp = 6;
-      shard = 0;
-      incarnation = 1;
-      item = 0;
-      request = Read (flow five);
-      reply = Found
-          (to 40000) 5;
-    }
+    entry 1 0 0 (Read (flow five)) Absent
+    ∷ entry 2 1 0 (Read (flow five)) Absent
+    ∷ entry 3 0 0 (PutIfAbsent (tcp 40000) (claim 0 five)) (Done 3)
+    ∷ entry 4 1 0 (PutIfAbsent (tcp 40000) (claim 1 five)) (Found (claim 0 five) 3)
+    ∷ entry 5 0 0 (PutIfAbsent (flow five) (to 40000)) (Done 5)
+    ∷ entry 6 1 0 (Read (flow five)) (Found (to 40000) 5)
     ∷ []
 
 twice_scheduled : IsScheduled (setting_of twice_plan twice_lanes)
@@ -441,60 +202,20 @@ twice_boxed = one_box_of_plan twice_plan twice_lanes twice_journal refl
     (run_of_schedule twice_plan twice_lanes twice_journal twice_scheduled (omega arith))
 
 abbrev starved_plan : Plan
-starved_plan = record {
-  function = Nat narrow;
-  shards = 1;
-  batch = 1;
-  epochs = epoch_of (on_lane 0 ∷ on_lane 1 ∷ []) [] No (0 ∷ 1 ∷ 0 ∷ 1 ∷ 1 ∷ 0 ∷ []) ∷ [];
-  some_shards = omega arith;
-  few_shards = omega arith;
-  some_batch = omega arith;
-  few_batch = omega arith;
-  some_epochs = omega arith;
-  few_epochs = omega arith;
-  function_fits = refl;
-  instances_fit = refl;
-  lanes_apart = refl;
-  places_fit = refl;
-  sweeps_fit = refl;
-  actors_fit = refl;
-}
+starved_plan = plan_of (Nat narrow) 1 1
+    (epoch_of (on_lane 0 ∷ on_lane 1 ∷ []) [] No (0 ∷ 1 ∷ 0 ∷ 1 ∷ 1 ∷ 0 ∷ []) ∷ []) refl
 
 abbrev starved_lanes : List Lane
 starved_lanes = lane_of (Seen packet_f ∷ []) refl ∷ lane_of (Seen packet_f ∷ []) refl ∷ []
 
 abbrev starved_journal : List Entry
 starved_journal =
-    record { stamp = 1; shard = 0; incarnation = 0; item = 0; request = Read (flow five); reply = Absent }
-    ∷ record { stamp = 2; shard = 0; incarnation = 1; item = 0; request = Read (flow five); reply = Absent }
-    ∷ record {
-      stamp = 3;
-      shard = 0;
-      incarnation = 0;
-      item = 0;
-      request = PutIfAbsent (tcp 40000)
-          (claim 0 five);
-      reply = Done 3;
-    }
-    ∷ record {
-      stamp = 4;
-      shard = 0;
-      incarnation = 1;
-      item = 0;
-      request = PutIfAbsent (tcp 40000)
-          (claim 1 five);
-      reply = Found (claim 0 five) 3;
-    }
-    ∷ record { stamp = 5; shard = 0; incarnation = 1; item = 0; request = Read (flow five); reply = Absent }
-    ∷ record {
-      stamp = 6;
-      shard = 0;
-      incarnation = 0;
-      item = 0;
-      request = PutIfAbsent (flow five)
-          (to 40000);
-      reply = Done 6;
-    }
+    entry 1 0 0 (Read (flow five)) Absent
+    ∷ entry 2 1 0 (Read (flow five)) Absent
+    ∷ entry 3 0 0 (PutIfAbsent (tcp 40000) (claim 0 five)) (Done 3)
+    ∷ entry 4 1 0 (PutIfAbsent (tcp 40000) (claim 1 five)) (Found (claim 0 five) 3)
+    ∷ entry 5 1 0 (Read (flow five)) Absent
+    ∷ entry 6 0 0 (PutIfAbsent (flow five) (to 40000)) (Done 6)
     ∷ []
 
 starved_scheduled : IsScheduled (setting_of starved_plan starved_lanes)
@@ -512,24 +233,7 @@ starved_boxed = one_box_of_plan starved_plan starved_lanes starved_journal refl
     (run_of_schedule starved_plan starved_lanes starved_journal starved_scheduled (omega arith))
 
 abbrev empty_plan : Plan
-empty_plan = record {
-  function = Nat narrow;
-  shards = 1;
-  batch = 1;
-  epochs = epoch_of [] [] No [] ∷ epoch_of (on_lane 5 ∷ []) [] No (0 ∷ 0 ∷ []) ∷ [];
-  some_shards = omega arith;
-  few_shards = omega arith;
-  some_batch = omega arith;
-  few_batch = omega arith;
-  some_epochs = omega arith;
-  few_epochs = omega arith;
-  function_fits = refl;
-  instances_fit = refl;
-  lanes_apart = refl;
-  places_fit = refl;
-  sweeps_fit = refl;
-  actors_fit = refl;
-}
+empty_plan = plan_of (Nat narrow) 1 1 (epoch_of [] [] No [] ∷ epoch_of (on_lane 5 ∷ []) [] No (0 ∷ 0 ∷ []) ∷ []) refl
 
 abbrev empty_lanes : List Lane
 empty_lanes = lane_of ([]) refl ∷ []

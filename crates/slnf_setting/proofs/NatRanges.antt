@@ -1,13 +1,11 @@
 -- The items of a NAT's plan begin as first flights, in their ranges.
-use Rattle.std.proofs.Common.{◌≡◌, ◌⊎◌, inl, inr, ℕ, ◌-◌, ◌*◌, ◌^◌, ◌<◌, ◌≤◌, Bool, true, false, cond, nat_lt, None, List, length, refl, subst, arith}
-use Rattle.std.specs.List.{list_all}
+use Rattle.std.proofs.Common.{◌≡◌, ◌⊎◌, inl, inr, ℕ, ◌-◌, ◌*◌, ◌<◌, ◌≤◌, Bool, true, false, cond, nat_lt, None, List, refl, subst, arith}
 use Rattle.std.proofs.lemmas.Bool.{ltb-true, ltb-false}
 use Rattle.slnf_base.specs.declared.packets.Proto.TheVariants.{Tcp, Udp}
 use Rattle.slnf_base.specs.declared.plans.Pool.{Pool}
 use Rattle.slnf_access.specs.Machines.{Stand, Flies, Ends}
 use Rattle.slnf_base.specs.Ranges.{IsPair}
 use Rattle.slnf_plan.specs.declared.plan.Epoch.{Epoch}
-use Rattle.slnf_plan.specs.Ranges.{has_instances}
 use Rattle.slnf_run.proofs.NextAccess.{same_flight}
 use Rattle.slnf_nat.specs.Flights.{SweepPort, NatFlight, Sweep, first_of}
 use Rattle.slnf_nat.specs.Given.{IsRanged}
@@ -78,7 +76,8 @@ module _ (pool : Pool) (epochs : List Epoch) (lanes : List Lane) where
           let pairs : IsPair started.packet.source × IsPair started.packet.dest =
           lanes_fit lanes started.lane k started.packet started.captured in
           starts_as (IsRanged (nat_of pool) (own_base (eras_of epochs)) i) pool i k started.packet first started.start
-          (λ w. (refl, incarnation_fits epochs i r.actor fits.instances fits.few r.at, pairs.0, w)) (λ w v. (pairs.1, w, v))
+          (λ w. (refl, incarnation_fits epochs i r.actor fits.instances fits.few r.at, pairs.0, w))
+          (λ w v. (pairs.1, w, v))
       go (inr swept) =
           item_flies (IsRanged (nat_of pool) (own_base (eras_of epochs)) i) pool
           (own_base (eras_of epochs) i) k first swept

@@ -1,5 +1,5 @@
 -- A worked run: an orphan claim of a stopped instance, and a sweep that takes it away.
-use Rattle.std.proofs.Common.{◌≡◌, ℕ, ◌/◌, ◌-◌, ◌^◌, Some, None, List, [], ◌∷◌, refl, arith}
+use Rattle.std.proofs.Common.{◌≤◌, ◌≡◌, ℕ, None, List, [], ◌∷◌, refl, arith}
 use Rattle.slnf_base.specs.declared.addresses.Pair.{Pair}
 use Rattle.slnf_base.specs.declared.addresses.Prefix.{Prefix}
 use Rattle.slnf_base.specs.declared.packets.Proto.TheVariants.{Tcp, Udp}
@@ -32,7 +32,7 @@ use Rattle.slnf_setting.specs.Flights.{NatFlies}
 use Rattle.slnf_nat.specs.Pools.{nat_of}
 use Rattle.slnf_setting.specs.PlanSetting.{setting_of}
 use Rattle.slnf_setting.proofs.PlanSchedules.{run_of_schedule}
-use Rattle.slnf_setting.proofs.RowParts.{lane_of, epoch_of, on_lane, with_stop}
+use Rattle.slnf_setting.proofs.RowParts.{lane_of, epoch_of, on_lane, with_stop, entry, plan_of}
 use Rattle.slnf_setting.specs.OneBoxOfPlan.{IsOneBoxOfPlan}
 use Rattle.slnf_setting.proofs.PlanWhole.{one_box_of_plan, nothing_leaks_of_plan}
 
@@ -44,31 +44,25 @@ ten = record { addr = 167772160; bits = 8; within = omega arith; zeros_after = r
 abbrev pub outside : ℕ
 outside = 3405803777
 
+abbrev pub pool_to : (high : ℕ) → 40000 ≤ high → Pool
+pool_to high in_order = record {
+  inside = ten;
+  outside = outside;
+  low = 40000;
+  high = high;
+  in_order = in_order;
+  registered = omega arith;
+  apart = refl;
+}
+
 abbrev pool : Pool
-pool = record { inside = ten; outside = outside; low = 40000; high = 40001; in_order = omega arith; registered = omega arith; apart = refl }
+pool = pool_to 40001 (omega arith)
 
 abbrev plan : Plan
-plan = record {
-  function = Nat pool;
-  shards = 1;
-  batch = 1;
-  epochs =
-      epoch_of (with_stop 0 2 ∷ []) [] No []
-      ∷ epoch_of (on_lane 1 ∷ []) [] (Yes None) (0 ∷ 0 ∷ 1 ∷ 1 ∷ 1 ∷ 1 ∷ 0 ∷ [])
-      ∷ [];
-  some_shards = omega arith;
-  few_shards = omega arith;
-  some_batch = omega arith;
-  few_batch = omega arith;
-  some_epochs = omega arith;
-  few_epochs = omega arith;
-  function_fits = refl;
-  instances_fit = refl;
-  lanes_apart = refl;
-  places_fit = refl;
-  sweeps_fit = refl;
-  actors_fit = refl;
-}
+plan = plan_of (Nat pool) 1 1 (
+    epoch_of (with_stop 0 2 ∷ []) [] No []
+    ∷ epoch_of (on_lane 1 ∷ []) [] (Yes None) (0 ∷ 0 ∷ 1 ∷ 1 ∷ 1 ∷ 1 ∷ 0 ∷ [])
+    ∷ []) refl
 
 -- 10.0.0.5:5000, 10.0.0.6:5000 and 198.51.100.7:80
 abbrev pub five : Pair
@@ -134,57 +128,17 @@ to number = record { 0 = flow_to_number (record { outside = port number }) }
 
 abbrev journal : List Entry
 journal =
-    record { stamp = 1; shard = 0; incarnation = 0; item = 0; request = Read (flow five); reply = Absent }
-    ∷ record {
-      stamp = 2;
-      shard = 0;
-      incarnation = 0;
-      item = 0;
-      request = PutIfAbsent (tcp 40001)
-          (claim 0 five);
-      reply = Done 2;
-    }
-    ∷ record { stamp = 3; shard = 0; incarnation = 1; item = 0; request = Read (flow six); reply = Absent }
-    ∷ record {
-      stamp = 4;
-      shard = 0;
-      incarnation = 1;
-      item = 0;
-      request = PutIfAbsent (tcp 40000)
-          (claim 1 six);
-      reply = Done 4;
-    }
-    ∷ record {
-      stamp = 5;
-      shard = 0;
-      incarnation = 2;
-      item = 0;
-      request = Read (tcp 40000);
-      reply = Found
-          (claim 1 six) 4;
-    }
-    ∷ record {
-      stamp = 6;
-      shard = 0;
-      incarnation = 2;
-      item = 1;
-      request = Read (tcp 40001);
-      reply = Found
-          (claim 0 five) 2;
-    }
-    ∷ record { stamp = 7; shard = 0; incarnation = 2; item = 1; request = Read (flow five); reply = Absent }
-    ∷ record { stamp = 8; shard = 0; incarnation = 2; item = 1; request = DeleteIf (tcp 40001) 2; reply = Done 8 }
-    ∷ record {
-      stamp = 9;
-      shard = 0;
-      incarnation = 1;
-      item = 0;
-      request = PutIfAbsent (flow six)
-          (to 40000);
-      reply = Done 9;
-    }
-    ∷ record { stamp = 10; shard = 0; incarnation = 2; item = 2; request = Read (udp 40000); reply = Absent }
-    ∷ record { stamp = 11; shard = 0; incarnation = 2; item = 3; request = Read (udp 40001); reply = Absent }
+    entry 1 0 0 (Read (flow five)) Absent
+    ∷ entry 2 0 0 (PutIfAbsent (tcp 40001) (claim 0 five)) (Done 2)
+    ∷ entry 3 1 0 (Read (flow six)) Absent
+    ∷ entry 4 1 0 (PutIfAbsent (tcp 40000) (claim 1 six)) (Done 4)
+    ∷ entry 5 2 0 (Read (tcp 40000)) (Found (claim 1 six) 4)
+    ∷ entry 6 2 1 (Read (tcp 40001)) (Found (claim 0 five) 2)
+    ∷ entry 7 2 1 (Read (flow five)) Absent
+    ∷ entry 8 2 1 (DeleteIf (tcp 40001) 2) (Done 8)
+    ∷ entry 9 1 0 (PutIfAbsent (flow six) (to 40000)) (Done 9)
+    ∷ entry 10 2 2 (Read (udp 40000)) Absent
+    ∷ entry 11 2 3 (Read (udp 40001)) Absent
     ∷ []
 
 -- the schedule makes the journal

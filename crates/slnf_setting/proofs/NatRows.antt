@@ -19,21 +19,21 @@ use Rattle.slnf_run.specs.Verdicts.{verdicts_of}
 use Rattle.slnf_run.specs.Scheduled.{usual_way, IsScheduled}
 use Rattle.slnf_run.specs.Visits.{visits_of}
 use Rattle.slnf_run.specs.Boxes.{content_after}
-use Rattle.slnf_setting.proofs.NatRow.{ten, outside, five, six, server, packet_f, packet_g, port, flow, tcp, claim, to}
+use Rattle.slnf_setting.proofs.NatRow.{pool_to, five, six, server, packet_f, packet_g, port, flow, tcp, claim, to}
 use Rattle.slnf_flight.specs.declared.lanes.Taken.TheVariants.{Seen}
 use Rattle.slnf_flight.specs.declared.lanes.Lane.{Lane}
 use Rattle.slnf_nat.specs.Pools.{nat_of}
 use Rattle.slnf_setting.specs.PlanSetting.{setting_of}
 use Rattle.slnf_setting.proofs.PlanSchedules.{run_of_schedule}
-use Rattle.slnf_setting.proofs.RowParts.{lane_of, epoch_of, on_lane}
+use Rattle.slnf_setting.proofs.RowParts.{lane_of, epoch_of, on_lane, entry, plan_of}
 use Rattle.slnf_setting.specs.OneBoxOfPlan.{any_nat_box, IsOneBoxOfPlan}
 use Rattle.slnf_setting.proofs.PlanWhole.{one_box_of_plan}
 
 abbrev pub wide : Pool
-wide = record { inside = ten; outside = outside; low = 40000; high = 40003; in_order = omega arith; registered = omega arith; apart = refl }
+wide = pool_to 40003 (omega arith)
 
 abbrev pub narrow : Pool
-narrow = record { inside = ten; outside = outside; low = 40000; high = 40000; in_order = omega arith; registered = omega arith; apart = refl }
+narrow = pool_to 40000 (omega arith)
 
 abbrev pub answer : Packet
 answer = record { proto = Tcp; source = server; dest = port 40001; flags = 18 }
@@ -41,67 +41,18 @@ answer = record { proto = Tcp; source = server; dest = port 40001; flags = 18 }
 -- ---- out and back
 
 abbrev back_plan : Plan
-back_plan = record {
-  function = Nat wide;
-  shards = 1;
-  batch = 1;
-  epochs = epoch_of (on_lane 0 ∷ on_lane 1 ∷ []) [] No (0 ∷ 0 ∷ 0 ∷ 1 ∷ 1 ∷ []) ∷ [];
-  some_shards = omega arith;
-  few_shards = omega arith;
-  some_batch = omega arith;
-  few_batch = omega arith;
-  some_epochs = omega arith;
-  few_epochs = omega arith;
-  function_fits = refl;
-  instances_fit = refl;
-  lanes_apart = refl;
-  places_fit = refl;
-  sweeps_fit = refl;
-  actors_fit = refl;
-}
+back_plan = plan_of (Nat wide) 1 1 (epoch_of (on_lane 0 ∷ on_lane 1 ∷ []) [] No (0 ∷ 0 ∷ 0 ∷ 1 ∷ 1 ∷ []) ∷ []) refl
 
 abbrev back_lanes : List Lane
 back_lanes = lane_of (Seen packet_f ∷ []) refl ∷ lane_of (Seen answer ∷ []) refl ∷ []
 
 abbrev back_journal : List Entry
 back_journal =
-    record { stamp = 1; shard = 0; incarnation = 0; item = 0; request = Read (flow five); reply = Absent }
-    ∷ record {
-      stamp = 2;
-      shard = 0;
-      incarnation = 0;
-      item = 0;
-      request = PutIfAbsent (tcp 40001)
-          (claim 0 five);
-      reply = Done 2;
-    }
-    ∷ record {
-      stamp = 3;
-      shard = 0;
-      incarnation = 0;
-      item = 0;
-      request = PutIfAbsent (flow five)
-          (to 40001);
-      reply = Done 3;
-    }
-    ∷ record {
-      stamp = 4;
-      shard = 0;
-      incarnation = 1;
-      item = 0;
-      request = Read (tcp 40001);
-      reply = Found
-          (claim 0 five) 2;
-    }
-    ∷ record {
-      stamp = 5;
-      shard = 0;
-      incarnation = 1;
-      item = 0;
-      request = Read (flow five);
-      reply = Found
-          (to 40001) 3;
-    }
+    entry 1 0 0 (Read (flow five)) Absent
+    ∷ entry 2 0 0 (PutIfAbsent (tcp 40001) (claim 0 five)) (Done 2)
+    ∷ entry 3 0 0 (PutIfAbsent (flow five) (to 40001)) (Done 3)
+    ∷ entry 4 1 0 (Read (tcp 40001)) (Found (claim 0 five) 2)
+    ∷ entry 5 1 0 (Read (flow five)) (Found (to 40001) 3)
     ∷ []
 
 back_scheduled : IsScheduled (setting_of back_plan back_lanes)
@@ -121,62 +72,21 @@ back_boxed = one_box_of_plan back_plan back_lanes back_journal refl
 -- ---- an inbound packet before the record of its flow: its place is its first entry
 
 abbrev early_plan : Plan
-early_plan = record {
-  function = Nat wide;
-  shards = 1;
-  batch = 1;
-  epochs = epoch_of (on_lane 0 ∷ on_lane 1 ∷ []) [] No (0 ∷ 0 ∷ 1 ∷ 1 ∷ 0 ∷ []) ∷ [];
-  some_shards = omega arith;
-  few_shards = omega arith;
-  some_batch = omega arith;
-  few_batch = omega arith;
-  some_epochs = omega arith;
-  few_epochs = omega arith;
-  function_fits = refl;
-  instances_fit = refl;
-  lanes_apart = refl;
-  places_fit = refl;
-  sweeps_fit = refl;
-  actors_fit = refl;
-}
+early_plan = plan_of (Nat wide) 1 1 (epoch_of (on_lane 0 ∷ on_lane 1 ∷ []) [] No (0 ∷ 0 ∷ 1 ∷ 1 ∷ 0 ∷ []) ∷ []) refl
 
 abbrev early_lanes : List Lane
 early_lanes = lane_of (Seen packet_f ∷ []) refl ∷ lane_of (Seen answer ∷ []) refl ∷ []
 
 abbrev early_second : Entry
-early_second = record {
-  stamp = 3;
-  shard = 0;
-  incarnation = 1;
-  item = 0;
-  request = Read (tcp 40001);
-  reply = Found
-      (claim 0 five) 2;
-}
+early_second = entry 3 1 0 (Read (tcp 40001)) (Found (claim 0 five) 2)
 
 abbrev early_journal : List Entry
 early_journal =
-    record { stamp = 1; shard = 0; incarnation = 0; item = 0; request = Read (flow five); reply = Absent }
-    ∷ record {
-      stamp = 2;
-      shard = 0;
-      incarnation = 0;
-      item = 0;
-      request = PutIfAbsent (tcp 40001)
-          (claim 0 five);
-      reply = Done 2;
-    }
+    entry 1 0 0 (Read (flow five)) Absent
+    ∷ entry 2 0 0 (PutIfAbsent (tcp 40001) (claim 0 five)) (Done 2)
     ∷ early_second
-    ∷ record { stamp = 4; shard = 0; incarnation = 1; item = 0; request = Read (flow five); reply = Absent }
-    ∷ record {
-      stamp = 5;
-      shard = 0;
-      incarnation = 0;
-      item = 0;
-      request = PutIfAbsent (flow five)
-          (to 40001);
-      reply = Done 5;
-    }
+    ∷ entry 4 1 0 (Read (flow five)) Absent
+    ∷ entry 5 0 0 (PutIfAbsent (flow five) (to 40001)) (Done 5)
     ∷ []
 
 early_scheduled : IsScheduled (setting_of early_plan early_lanes)
@@ -206,60 +116,19 @@ early_content = refl
 -- ---- a full pool
 
 abbrev full_plan : Plan
-full_plan = record {
-  function = Nat narrow;
-  shards = 1;
-  batch = 1;
-  epochs = epoch_of (on_lane 0 ∷ []) [] No [] ∷ [];
-  some_shards = omega arith;
-  few_shards = omega arith;
-  some_batch = omega arith;
-  few_batch = omega arith;
-  some_epochs = omega arith;
-  few_epochs = omega arith;
-  function_fits = refl;
-  instances_fit = refl;
-  lanes_apart = refl;
-  places_fit = refl;
-  sweeps_fit = refl;
-  actors_fit = refl;
-}
+full_plan = plan_of (Nat narrow) 1 1 (epoch_of (on_lane 0 ∷ []) [] No [] ∷ []) refl
 
 abbrev full_lanes : List Lane
 full_lanes = lane_of (Seen packet_f ∷ Seen packet_g ∷ []) refl ∷ []
 
 abbrev full_journal : List Entry
 full_journal =
-    record { stamp = 1; shard = 0; incarnation = 0; item = 0; request = Read (flow five); reply = Absent }
-    ∷ record {
-      stamp = 2;
-      shard = 0;
-      incarnation = 0;
-      item = 0;
-      request = PutIfAbsent (tcp 40000)
-          (claim 0 five);
-      reply = Done 2;
-    }
-    ∷ record {
-      stamp = 3;
-      shard = 0;
-      incarnation = 0;
-      item = 0;
-      request = PutIfAbsent (flow five)
-          (to 40000);
-      reply = Done 3;
-    }
-    ∷ record { stamp = 4; shard = 0; incarnation = 0; item = 1; request = Read (flow six); reply = Absent }
-    ∷ record {
-      stamp = 5;
-      shard = 0;
-      incarnation = 0;
-      item = 1;
-      request = PutIfAbsent (tcp 40000)
-          (claim 0 six);
-      reply = Found (claim 0 five) 2;
-    }
-    ∷ record { stamp = 6; shard = 0; incarnation = 0; item = 1; request = Read (flow six); reply = Absent }
+    entry 1 0 0 (Read (flow five)) Absent
+    ∷ entry 2 0 0 (PutIfAbsent (tcp 40000) (claim 0 five)) (Done 2)
+    ∷ entry 3 0 0 (PutIfAbsent (flow five) (to 40000)) (Done 3)
+    ∷ entry 4 0 1 (Read (flow six)) Absent
+    ∷ entry 5 0 1 (PutIfAbsent (tcp 40000) (claim 0 six)) (Found (claim 0 five) 2)
+    ∷ entry 6 0 1 (Read (flow six)) Absent
     ∷ []
 
 full_scheduled : IsScheduled (setting_of full_plan full_lanes)

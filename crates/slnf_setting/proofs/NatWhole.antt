@@ -1,11 +1,11 @@
 -- One ordinary NAT explains each run of a NAT's plan, with all that is written, and nothing leaks in it.
-use Rattle.std.proofs.Common.{◌≡◌, ℕ, ◌*◌, ◌^◌, ◌<◌, ◌≤◌, true, List, length}
+use Rattle.std.proofs.Common.{◌≡◌, ℕ, ◌*◌, true, List}
 use Rattle.std.specs.List.{list_all}
 use Rattle.slnf_base.specs.declared.plans.Pool.{Pool}
 use Rattle.slnf_access.specs.declared.requests.Entry.{Entry}
 use Rattle.slnf_access.specs.Machines.{Stand}
 use Rattle.slnf_plan.specs.declared.plan.Epoch.{Epoch}
-use Rattle.slnf_plan.specs.Ranges.{has_instances, has_lanes_apart}
+use Rattle.slnf_plan.specs.Ranges.{has_lanes_apart}
 use Rattle.slnf_run.specs.Run.{IsRun}
 use Rattle.slnf_run.specs.Setting.{Setting, own_base}
 use Rattle.slnf_run.specs.Images.{IsSceneImage}
@@ -23,7 +23,7 @@ use Rattle.slnf_nat.proofs.NothingLeaks.{nothing_leaks}
 use Rattle.slnf_flight.specs.declared.lanes.Lane.{Lane}
 use Rattle.slnf_setting.specs.Actors.{eras_of}
 use Rattle.slnf_setting.specs.Flights.{AnyFlight, NatFlies}
-use Rattle.slnf_run.specs.Cases.{case_scene, case_setting}
+use Rattle.slnf_run.specs.Cases.{case_setting}
 use Rattle.slnf_setting.specs.Begins.{begins_of}
 use Rattle.slnf_plan.specs.declared.plan.FunctionPlan.TheVariants.{Nat}
 use Rattle.slnf_setting.proofs.PlanFits.{PlanFits, plan_is_nat}

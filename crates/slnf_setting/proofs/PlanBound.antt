@@ -1,6 +1,5 @@
 -- How many accesses the items of a plan make.
 use Rattle.std.proofs.Common.{◌≡◌, ℕ, ◌+◌, ◌-◌, ◌<◌, ◌≤◌, List, length, arith, refl, ◌*◌, []}
-use Rattle.std.specs.Prelude.{IsTrue}
 use Rattle.slnf_access.specs.declared.requests.Entry.{Entry}
 use Rattle.slnf_access.specs.Map.{IsLegal}
 use Rattle.slnf_plan.specs.declared.plan.FunctionPlan.{FunctionPlan}

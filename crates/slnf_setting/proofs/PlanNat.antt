@@ -1,21 +1,16 @@
 -- What holds of a run of a NAT's plan beside its box.
-use Rattle.std.proofs.Common.{◌≡◌, ℕ, suc, true, Some, List, take, slice_get, ap, sym, ◌∙◌, subst}
+use Rattle.std.proofs.Common.{◌≡◌, ℕ, List, ap, sym, ◌∙◌, subst}
 use Rattle.std.specs.Prelude.{IsTrue}
-use Rattle.std.proofs.lemmas.Option.{same_Some}
 use Rattle.slnf_base.specs.declared.plans.Pool.{Pool}
-use Rattle.slnf_base.specs.declared.packets.Packet.{Packet}
-use Rattle.slnf_base.specs.declared.packets.Reason.TheVariants.{NoPort}
-use Rattle.slnf_base.specs.declared.packets.Verdict.TheVariants.{Dropped}
 use Rattle.slnf_access.specs.declared.requests.Entry.{Entry}
 use Rattle.slnf_plan.specs.declared.plan.FunctionPlan.{FunctionPlan}
 use Rattle.slnf_plan.specs.declared.plan.FunctionPlan.TheVariants.{Nat, Firewall, Balancer}
 use Rattle.slnf_plan.specs.declared.plan.Epoch.{Epoch}
 use Rattle.slnf_plan.specs.declared.plan.Plan.{Plan}
-use Rattle.slnf_run.specs.Scene.{own_of}
 use Rattle.slnf_run.specs.Run.{IsRun}
 use Rattle.slnf_run.specs.Setting.{Setting, own_base}
-use Rattle.slnf_run.specs.Visits.{Decision, decision_at}
-use Rattle.slnf_nat.specs.declared.flights.OutState.TheVariants.{Look, Release}
+use Rattle.slnf_run.specs.Visits.{decision_at}
+use Rattle.slnf_nat.specs.declared.flights.OutState.TheVariants.{Release}
 use Rattle.slnf_nat.specs.Flights.{Out}
 use Rattle.slnf_nat.specs.Given.{IsNatList}
 use Rattle.slnf_flight.specs.declared.lanes.Lane.{Lane}
@@ -69,4 +64,5 @@ runs_by plan lanes es (Balancer service) pool is fits run = absurd (cc)
 pub nat_runs_of_plan : (plan : Plan) (lanes : List Lane) (es : List Entry) (pool : Pool) → plan.function ≡ Nat pool →
     IsTrue (has_types plan.function) → IsRun (setting_of plan lanes) es →
     NatRunsWell (nat_of pool) (setting_of plan lanes).scene es
-nat_runs_of_plan plan lanes es pool is types run = runs_by plan lanes es plan.function pool is (plan_fits plan types) run
+nat_runs_of_plan plan lanes es pool is types run =
+    runs_by plan lanes es plan.function pool is (plan_fits plan types) run

@@ -1,13 +1,11 @@
 -- What a run of a plan keeps of the pairs that it gives out.
-use Rattle.std.proofs.Common.{◌≡◌, ℕ, ◌≤◌, true, List, length}
+use Rattle.std.proofs.Common.{ℕ, List}
 use Rattle.std.specs.Prelude.{IsTrue}
-use Rattle.std.specs.List.{list_all}
 use Rattle.slnf_access.specs.declared.requests.Entry.{Entry}
 use Rattle.slnf_plan.specs.declared.plan.FunctionPlan.{FunctionPlan}
 use Rattle.slnf_plan.specs.declared.plan.FunctionPlan.TheVariants.{Nat, Firewall, Balancer}
 use Rattle.slnf_plan.specs.declared.plan.Epoch.{Epoch}
 use Rattle.slnf_plan.specs.declared.plan.Plan.{Plan}
-use Rattle.slnf_plan.specs.Ranges.{has_instances, has_lanes_apart}
 use Rattle.slnf_run.specs.Run.{IsRun}
 use Rattle.slnf_nat.specs.Given.{IsNatList}
 use Rattle.slnf_flight.specs.declared.lanes.Lane.{Lane}

@@ -1,7 +1,6 @@
 -- No reply is ill in a run of a plan.
-use Rattle.std.proofs.Common.{◌≡◌, ℕ, ◌≤◌, true, Option, Some, None, List, ◌∷◌, ◌++◌, length, take, ap, sym, ◌∙◌, subst, arith, length-append}
+use Rattle.std.proofs.Common.{◌≡◌, ℕ, ◌≤◌, Option, Some, None, List, ◌∷◌, ◌++◌, length, take, ap, sym, ◌∙◌, subst, arith, length-append}
 use Rattle.std.specs.Prelude.{IsTrue}
-use Rattle.std.specs.List.{list_all}
 use Rattle.std.specs.Option.{option_map}
 use Rattle.std.proofs.Math.Seq.{take-append_seam}
 use Rattle.std.proofs.lemmas.Option.{same_Some}
@@ -22,7 +21,6 @@ use Rattle.slnf_plan.specs.declared.plan.FunctionPlan.{FunctionPlan}
 use Rattle.slnf_plan.specs.declared.plan.FunctionPlan.TheVariants.{Nat, Firewall, Balancer}
 use Rattle.slnf_plan.specs.declared.plan.Epoch.{Epoch}
 use Rattle.slnf_plan.specs.declared.plan.Plan.{Plan}
-use Rattle.slnf_plan.specs.Ranges.{has_instances, has_lanes_apart}
 use Rattle.slnf_run.specs.Scene.{Scene}
 use Rattle.slnf_run.specs.Boxes.{Box, content_after, IsExplained}
 use Rattle.slnf_run.specs.Run.{IsRun}

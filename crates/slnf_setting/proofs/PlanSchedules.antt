@@ -1,5 +1,5 @@
 -- What a plan's schedule makes.
-use Rattle.std.proofs.Common.{ℕ, ◌<◌, ◌^◌, List, length}
+use Rattle.std.proofs.Common.{◌<◌, ◌^◌, List, length}
 use Rattle.slnf_access.specs.declared.requests.Entry.{Entry}
 use Rattle.slnf_plan.specs.declared.plan.Plan.{Plan}
 use Rattle.slnf_run.specs.Run.{IsRun}

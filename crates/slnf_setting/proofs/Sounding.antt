@@ -85,12 +85,14 @@ module _ {F : Type 0} (m : Machine F) (starts : ℕ → ℕ → Packet → Start
     steady = λ i. owed.steady;
     undecided = λ i k first h. first_undecided i k first lanes (slice_get (actors_of eras) i) h;
     ends_well = λ i lane k actor own at on size can.
-        let r : (taken : Taken) × (begins_of eras lanes starts sweeps i k
-        ≡ begins_with (starts i k) (Some taken)) = begins_on_lane eras lanes starts sweeps i k actor at lane on size in
+        let r : (taken : Taken)
+        × (begins_of eras lanes starts sweeps i k ≡ begins_with (starts i k) (Some taken)) =
+        begins_on_lane eras lanes starts sweeps i k actor at lane on size in
         subst (λ st. EndsWell (stand_after m st own)) (sym r.1) (taken_well i k own r.0);
     begins_dropped = λ i lane k actor verdict at on size ends.
-        let r : (taken : Taken) × (begins_of eras lanes starts sweeps i k
-        ≡ begins_with (starts i k) (Some taken)) = begins_on_lane eras lanes starts sweeps i k actor at lane on size in
+        let r : (taken : Taken)
+        × (begins_of eras lanes starts sweeps i k ≡ begins_with (starts i k) (Some taken)) =
+        begins_on_lane eras lanes starts sweeps i k actor at lane on size in
         taken_dropped i k verdict r.0 (sym r.1 ∙ ends);
     sweeps = λ i k actor own at none can.
         ap (λ st. decided_at m (stand_after m st own)) (begins_in_sweep eras lanes starts sweeps i k actor at none)

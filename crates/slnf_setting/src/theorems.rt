@@ -37,8 +37,8 @@ ghost use Rattle.slnf_run.specs.Items.{Item};
 
 /// The setting of each plan is sound, and its items fly as its function's alone. One ordinary box explains each run of
 /// it, with all that is written. No two live flows share an outside pair, and no flow's outside pair and no client's
-/// backend changes. In a NAT's run nothing leaks. Each item makes a bounded number of accesses, and a plan's items make,
-/// within the limits, fewer than 2^41; the entries of a run are such items'.
+/// backend changes. In a NAT's run nothing leaks. Each item makes a bounded number of accesses, and within the limits a
+/// plan's items make fewer than 2^41; the entries of a run are such items'.
 pub fn plan_has_one_box()
     ensures sound { (plan : Plan) (lanes : List Lane) → IsSound (setting_of plan lanes) }
     ensures own { (plan : Plan) (lanes : List Lane) (i k : ℕ) (es : List Entry)
