@@ -1,0 +1,83 @@
+-- The order of a table's keys, and what a table has after a pair is put in.
+use Rattle.std.proofs.Common.{◌≡◌, ℕ, Bool, true, false, cond, Option, Some, None, List, [], ◌∷◌, refl, ap, sym, ◌∙◌}
+use Rattle.std.specs.Prelude.{◌&&◌, ◌==◌}
+use Rattle.std.specs.declared.cmp.Ordering.{Ordering}
+use Rattle.std.specs.declared.cmp.Ordering.TheVariants.{Less, Equal, Greater}
+use Rattle.std.specs.Ordering.{nat_cmp, ordering_then, is_eq}
+use Rattle.std.specs.Map.{lookup}
+use Rattle.std.specs.BTreeMap.{is_at}
+use Rattle.std.proofs.lemmas.Cmp.{nat_eq_equiv}
+use Rattle.std.proofs.lemmas.Bool.{and_parts, cond_both}
+use Rattle.slnf_base.specs.declared.addresses.Pair.{Pair}
+use Rattle.slnf_base.specs.declared.packets.Proto.{Proto}
+use Rattle.slnf_base.specs.Equal.{is_same_pair, is_same_proto}
+use Rattle.slnf_lb.specs.Box.{Pins, with_pin}
+use Rattle.slnf_lb.proofs.Same.{same_pair, same_proto}
+use Rattle.slnf_box.specs.declared.pairs.End.{End}
+use Rattle.slnf_box.specs.Pairs.{end_of, is_same_end, pair_at}
+
+-- the order of the keys, by protocol, address and port
+abbrev pub end_cmp : End → End → Ordering
+end_cmp a b = ordering_then (nat_cmp a.proto b.proto) (ordering_then (nat_cmp a.addr b.addr) (nat_cmp a.port b.port))
+
+-- numbers that compare alike are one
+tells : (x y : ℕ) → is_eq (nat_cmp x y) ≡ (x == y)
+tells x y = Prim.grind (Rattle.std.proofs.Common.arith)
+
+-- parts that compare alike
+both_eq : (o p : Ordering) → is_eq (ordering_then o p) ≡ (is_eq o && is_eq p)
+both_eq Less p = refl
+both_eq Equal p = refl
+both_eq Greater p = refl
+
+both_are : (o p : Ordering) (a b : Bool) → is_eq o ≡ a → is_eq p ≡ b → is_eq (ordering_then o p) ≡ (a && b)
+both_are o p a b left right = both_eq o p ∙ (ap (λ x. x && is_eq p) left ∙ ap (λ y. a && y) right)
+
+-- keys that compare alike are one
+pub end_tells : (a b : End) → is_eq (end_cmp a b) ≡ is_same_end a b
+end_tells a b =
+    both_are _ _ _ _ (tells a.proto b.proto) (both_are _ _ _ _ (tells a.addr b.addr) (tells a.port b.port))
+
+-- the same from the other side
+pub end_tells_back : (a b : End) → is_eq (end_cmp a b) ≡ is_same_end b a
+end_tells_back a b =
+    both_are _ _ _ _ (tells a.proto b.proto ∙ nat_eq_equiv.symm a.proto b.proto)
+    (both_are _ _ _ _ (tells a.addr b.addr ∙ nat_eq_equiv.symm a.addr b.addr)
+    (tells a.port b.port ∙ nat_eq_equiv.symm a.port b.port))
+
+-- tests that answer alike find the same
+pub lookup_same : {K X : Type 0} (test other : K → Bool) → ((k : K) → test k ≡ other k) → (es : List (K × X)) → lookup test es ≡ lookup other es
+lookup_same test other h [] = refl
+lookup_same test other h (e ∷ es) =
+    ap (λ b. cond b (Some e.1) (lookup test es)) (h e.0) ∙ ap (cond (other e.0) (Some e.1)) (lookup_same test other h es)
+
+-- what the map finds is what the table has
+pub found_at : (es : List (End × Pair)) (proto : Proto) (pair : Pair) → lookup (is_at (end_cmp (end_of proto pair))) es ≡ pair_at es proto pair
+found_at es proto pair = lookup_same _ _ (λ k. end_tells (end_of proto pair) k) es
+
+-- the key k has this value, and each other what it had
+abbrev pub IsPut : List (End × Pair) → List (End × Pair) → End → Pair → Type 0
+IsPut es fs k value = (q : End) → lookup (is_at (end_cmp q)) fs ≡ cond (is_at (end_cmp k) q) (Some value) (lookup (is_at (end_cmp q)) es)
+
+-- what a table has where one pair is put in
+put_point : (es fs : List (End × Pair)) (k : End) (proto : Proto) (pair value : Pair) → k ≡ end_of proto pair → IsPut es fs k value → (other_proto : Proto) (other : Pair) → pair_at fs other_proto other ≡ with_pin (pair_at es) proto pair value other_proto other
+put_point es fs k proto pair value key h other_proto other =
+    let q = end_of other_proto other in
+    sym (found_at fs other_proto other) ∙ h q
+    ∙ ap (λ b. cond b (Some value) (lookup (is_at (end_cmp q)) es)) (end_tells_back k q)
+    ∙ ap (λ r. cond (is_same_end q r) (Some value) (lookup (is_at (end_cmp q)) es)) key
+    ∙ ap (cond (is_same_end q (end_of proto pair)) (Some value)) (found_at es other_proto other)
+
+pub put_pairs : (es fs : List (End × Pair)) (k : End) (proto : Proto) (pair value : Pair) → k ≡ end_of proto pair → IsPut es fs k value → pair_at fs ≡ with_pin (pair_at es) proto pair value
+put_pairs es fs k proto pair value key h = λ i other_proto other. put_point es fs k proto pair value key h other_proto other i
+
+-- a pair that is there already changes nothing
+again_point : (pins : Pins) (proto : Proto) (pair value : Pair) → pins proto pair ≡ Some value → (other_proto : Proto) (other : Pair) → pins other_proto other ≡ with_pin pins proto pair value other_proto other
+again_point pins proto pair value known other_proto other =
+    cond_both (is_same_proto other_proto proto && is_same_pair other pair) (Some value) (pins other_proto other) (λ (o : Option Pair). pins other_proto other ≡ o)
+    (λ t. let parts = and_parts (is_same_proto other_proto proto) (is_same_pair other pair) t in
+    ap (λ (q : Proto). pins q other) (same_proto other_proto proto parts.0) ∙ ap (pins proto) (same_pair other pair parts.1) ∙ known)
+    (λ f. refl)
+
+pub put_again : (pins : Pins) (proto : Proto) (pair value : Pair) → pins proto pair ≡ Some value → pins ≡ with_pin pins proto pair value
+put_again pins proto pair value known = λ i other_proto other. again_point pins proto pair value known other_proto other i
