@@ -21,7 +21,7 @@ abbrev pub end_cmp : End → End → Ordering
 end_cmp a b = ordering_then (nat_cmp a.proto b.proto) (ordering_then (nat_cmp a.addr b.addr) (nat_cmp a.port b.port))
 
 -- numbers that compare alike are one
-tells : (x y : ℕ) → is_eq (nat_cmp x y) ≡ (x == y)
+pub tells : (x y : ℕ) → is_eq (nat_cmp x y) ≡ (x == y)
 tells x y = Prim.grind (Rattle.std.proofs.Common.arith)
 
 -- parts that compare alike
@@ -30,7 +30,7 @@ both_eq Less p = refl
 both_eq Equal p = refl
 both_eq Greater p = refl
 
-both_are : (o p : Ordering) (a b : Bool) → is_eq o ≡ a → is_eq p ≡ b → is_eq (ordering_then o p) ≡ (a && b)
+pub both_are : (o p : Ordering) (a b : Bool) → is_eq o ≡ a → is_eq p ≡ b → is_eq (ordering_then o p) ≡ (a && b)
 both_are o p a b left right = both_eq o p ∙ (ap (λ x. x && is_eq p) left ∙ ap (λ y. a && y) right)
 
 -- keys that compare alike are one

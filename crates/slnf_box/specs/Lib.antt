@@ -1,2 +1,4 @@
 pub mod Pairs
 pub mod Balancer
+pub mod Conns
+pub mod Firewall

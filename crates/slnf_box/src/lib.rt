@@ -2,9 +2,13 @@
 #![tactic(auto)]
 
 mod balancer;
+mod choices;
+mod conns;
+mod firewall;
 mod pairs;
 
 pub use balancer::LbBox;
+pub use firewall::FwBox;
 
 #[cfg(test)]
 mod tests;

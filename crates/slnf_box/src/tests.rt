@@ -1,5 +1,6 @@
-use crate::LbBox;
-use slnf_base::{Change, Packet, Pair, Proto, Reason, Row, Service, Verdict};
+use crate::{FwBox, LbBox};
+use slnf_base::{Change, Packet, Pair, Prefix, Proto, Reason, Row, Service, Verdict};
+use slnf_fw_table::Rule;
 use std::test::Fail;
 
 const FRONT: Pair = Pair {
@@ -42,5 +43,55 @@ fn a_client_is_pinned_to_its_first_choice(rt: HostRuntime) -> Result<(), Fail> {
     assert_eq!(rt; balancer.handle(&udp(BACKEND, CLIENT), BACKEND)?, back);
     let neither = Verdict::Dropped(Reason::Neither);
     assert_eq!(rt; balancer.handle(&udp(CLIENT, CLIENT), BACKEND)?, neither);
+    Ok(())
+}
+
+const INSIDE: Prefix = Prefix {
+    addr: 0x0a00_0000,
+    bits: 8,
+};
+
+const HOST: Pair = Pair {
+    addr: 0x0a00_0005,
+    port: 5000,
+};
+
+const SERVER: Pair = Pair {
+    addr: 0xc633_6407,
+    port: 80,
+};
+
+fn tcp(source: Pair, dest: Pair, flags: u8) -> Packet {
+    Packet {
+        proto: Proto::Tcp,
+        source,
+        dest,
+        flags,
+    }
+}
+
+/// One rule permits all TCP out: SYN is 2, and SYN with ACK 18.
+#[test]
+fn a_connection_opens_from_the_inside(rt: HostRuntime) -> Result<(), Fail> {
+    let tcp_out = Rule {
+        permit: true,
+        outbound: true,
+        proto: 6,
+        source: 0,
+        source_bits: 0,
+        dest: 0,
+        dest_bits: 0,
+        low: 0,
+        high: 65535,
+    };
+    let rules = Row::from_vec(vec![in rt.alloc(); tcp_out]?);
+    let mut firewall = FwBox::make(rt.alloc(), INSIDE, rules);
+    let kept = Verdict::Emit(Change::Keep);
+    let denied = Verdict::Dropped(Reason::DeniedRule);
+    let neither = Verdict::Dropped(Reason::Neither);
+    assert_eq!(rt; firewall.handle(&tcp(SERVER, HOST, 2))?, denied);
+    assert_eq!(rt; firewall.handle(&tcp(HOST, SERVER, 2))?, kept);
+    assert_eq!(rt; firewall.handle(&tcp(SERVER, HOST, 18))?, kept);
+    assert_eq!(rt; firewall.handle(&tcp(HOST, HOST, 2))?, neither);
     Ok(())
 }
