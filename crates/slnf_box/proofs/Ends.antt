@@ -3,22 +3,18 @@ use Rattle.std.proofs.Common.{◌≡◌, ℕ, Bool, true, false, cond, Option, S
 use Rattle.std.specs.Prelude.{◌&&◌, ◌==◌}
 use Rattle.std.specs.declared.cmp.Ordering.{Ordering}
 use Rattle.std.specs.declared.cmp.Ordering.TheVariants.{Less, Equal, Greater}
-use Rattle.std.specs.Ordering.{nat_cmp, ordering_then, is_eq}
-use Rattle.std.specs.Map.{lookup}
-use Rattle.std.specs.BTreeMap.{is_at}
+use Rattle.std.specs.Ordering.{nat_cmp, ordering_then, is_eq, match_ordering}
+use Rattle.std.specs.Map.{lookup, remove_entry}
+use Rattle.std.specs.BTreeMap.{is_at, insert_entry}
 use Rattle.std.proofs.lemmas.Cmp.{nat_eq_equiv}
-use Rattle.std.proofs.lemmas.Bool.{and_parts, cond_both}
+use Rattle.std.proofs.lemmas.Bool.{and_parts, and_from, eq-eqb, cond_both}
 use Rattle.slnf_base.specs.declared.addresses.Pair.{Pair}
 use Rattle.slnf_base.specs.declared.packets.Proto.{Proto}
 use Rattle.slnf_base.specs.Equal.{is_same_pair, is_same_proto}
 use Rattle.slnf_lb.specs.Box.{Pins, with_pin}
 use Rattle.slnf_lb.proofs.Same.{same_pair, same_proto}
 use Rattle.slnf_box.specs.declared.pairs.End.{End}
-use Rattle.slnf_box.specs.Pairs.{end_of, is_same_end, pair_at}
-
--- the order of the keys, by protocol, address and port
-abbrev pub end_cmp : End → End → Ordering
-end_cmp a b = ordering_then (nat_cmp a.proto b.proto) (ordering_then (nat_cmp a.addr b.addr) (nat_cmp a.port b.port))
+use Rattle.slnf_box.specs.Pairs.{end_cmp, end_of, is_same_end, pair_at, put_in, taken_from}
 
 -- numbers that compare alike are one
 pub tells : (x y : ℕ) → is_eq (nat_cmp x y) ≡ (x == y)
@@ -81,3 +77,35 @@ again_point pins proto pair value known other_proto other =
 
 pub put_again : (pins : Pins) (proto : Proto) (pair value : Pair) → pins proto pair ≡ Some value → pins ≡ with_pin pins proto pair value
 put_again pins proto pair value known = λ i other_proto other. again_point pins proto pair value known other_proto other i
+
+-- a key is its own
+end_itself : (k : End) → is_at (end_cmp k) k ≡ true
+end_itself k =
+    end_tells k k
+    ∙ and_from _ _ (eq-eqb k.proto k.proto refl) (and_from _ _ (eq-eqb k.addr k.addr refl) (eq-eqb k.port k.port refl))
+
+-- something is not nothing
+some_none : {X : Type 0} {A : Type 0} (x : X) → let some : Option X = Some x in some ≡ None → A
+some_none x h = absurd cc
+
+-- nothing is there in the rest
+rest_none : (b : Bool) (x : Pair) (o : Option Pair) → cond b (Some x) o ≡ None → o ≡ None
+rest_none true x o h = some_none x h
+rest_none false x o h = h
+
+-- what was put in at a key that was not there is taken out again
+removed : (compare : End → End → Ordering) (k : End) (value : Pair) → is_at (compare k) k ≡ true → (e : End × Pair) (es : List (End × Pair)) (o : Ordering) → compare k e.0 ≡ o → cond (is_eq o) (Some e.1) (lookup (is_at (compare k)) es) ≡ None → remove_entry (is_at (compare k)) (insert_entry compare es k value) ≡ es → remove_entry (is_at (compare k)) (match_ordering o ((k, value) ∷ e ∷ es) ((e.0, value) ∷ es) (e ∷ insert_entry compare es k value)) ≡ e ∷ es
+removed compare k value itself e es Less is none again = ap (λ b. cond b (e ∷ es) ((k, value) ∷ remove_entry (is_at (compare k)) (e ∷ es))) itself
+removed compare k value itself e es Equal is none again = some_none e.1 none
+removed compare k value itself e es Greater is none again =
+    ap (λ o. cond (is_eq o) (insert_entry compare es k value) (e ∷ remove_entry (is_at (compare k)) (insert_entry compare es k value))) is
+    ∙ ap (λ rest. e ∷ rest) again
+
+undone_by : (compare : End → End → Ordering) (k : End) (value : Pair) → is_at (compare k) k ≡ true → (es : List (End × Pair)) → lookup (is_at (compare k)) es ≡ None → remove_entry (is_at (compare k)) (insert_entry compare es k value) ≡ es
+undone_by compare k value itself [] none = ap (λ b. cond b [] ((k, value) ∷ [])) itself
+undone_by compare k value itself (e ∷ es) none =
+    removed compare k value itself e es (compare k e.0) refl none (undone_by compare k value itself es (rest_none (is_at (compare k) e.0) e.1 _ none))
+
+pub undone : (es : List (End × Pair)) (proto : Proto) (pair value : Pair) → pair_at es proto pair ≡ None → taken_from (put_in es proto pair value) proto pair ≡ es
+undone es proto pair value none =
+    undone_by end_cmp (end_of proto pair) value (end_itself (end_of proto pair)) es (found_at es proto pair ∙ none)

@@ -6,9 +6,11 @@ mod choices;
 mod conns;
 mod firewall;
 mod pairs;
+mod translator;
 
 pub use balancer::LbBox;
 pub use firewall::FwBox;
+pub use translator::NatBox;
 
 #[cfg(test)]
 mod tests;

@@ -1,6 +1,6 @@
 ghost use Rattle.std.specs.Prelude.{◌≡◌, IfOk, OnOk, OnErr, []};
 ghost use Rattle.slnf_lb.specs.Box.{with_pin, backend_or};
-ghost use Rattle.slnf_box.specs.Pairs.{pair_at};
+ghost use Rattle.slnf_box.specs.Pairs.{pair_at, put_in, taken_from};
 
 use slnf_base::{NoMemory, Pair, Proto};
 use std::alloc::Global;
@@ -64,10 +64,18 @@ impl PairTable {
     /// Sets what the table has at a protocol's pair.
     pub fn put(&mut self, proto: Proto, pair: Pair, value: Pair) -> Result<(), NoMemory>
         ensures ok { OnOk result (pair_at self.new ≡ with_pin (pair_at self.old) proto pair value) }
+        ensures entries { OnOk result (self.new ≡ put_in self.old proto pair value) }
         ensures err { OnErr result (self.new ≡ self.old) }
     {
         self.pairs.insert(end_of(proto, pair), value)?;
         Ok(())
+    }
+
+    /// Takes away what the table has at a protocol's pair.
+    pub fn take(&mut self, proto: Proto, pair: Pair)
+        ensures { self.new ≡ taken_from self.old proto pair }
+    {
+        self.pairs.remove(&end_of(proto, pair));
     }
 
     /// What the table has at a protocol's pair, or else this value, which it has there then.
