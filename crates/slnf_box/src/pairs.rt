@@ -79,12 +79,7 @@ impl PairTable {
     }
 
     /// What the table has at a protocol's pair, or else this value, which it has there then.
-    pub fn at_or_put(
-        &mut self,
-        proto: Proto,
-        pair: Pair,
-        value: Pair,
-    ) -> Result<Pair, NoMemory>
+    pub fn at_or_put(&mut self, proto: Proto, pair: Pair, value: Pair) -> Result<Pair, NoMemory>
         ensures value { IfOk result (λ known. known ≡ backend_or (pair_at self.old proto pair) value) }
         ensures ok { OnOk result (pair_at self.new
             ≡ with_pin (pair_at self.old) proto pair (backend_or (pair_at self.old proto pair) value)) }

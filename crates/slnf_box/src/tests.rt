@@ -1,5 +1,5 @@
-use crate::{FwBox, LbBox};
-use slnf_base::{Change, Packet, Pair, Prefix, Proto, Reason, Row, Service, Verdict};
+use crate::{FwBox, LbBox, NatBox};
+use slnf_base::{Change, Packet, Pair, Pool, Prefix, Proto, Reason, Row, Service, Verdict};
 use slnf_fw_table::Rule;
 use std::test::Fail;
 
@@ -93,5 +93,40 @@ fn a_connection_opens_from_the_inside(rt: HostRuntime) -> Result<(), Fail> {
     assert_eq!(rt; firewall.handle(&tcp(HOST, SERVER, 2))?, kept);
     assert_eq!(rt; firewall.handle(&tcp(SERVER, HOST, 18))?, kept);
     assert_eq!(rt; firewall.handle(&tcp(HOST, HOST, 2))?, neither);
+    Ok(())
+}
+
+const PORT: Pair = Pair {
+    addr: 0xcb00_7101,
+    port: 40000,
+};
+
+#[test]
+fn a_flow_keeps_its_pair(rt: HostRuntime) -> Result<(), Fail> {
+    let pool = Pool {
+        inside: INSIDE,
+        outside: PORT.addr,
+        low: PORT.port,
+        high: PORT.port,
+    };
+    let other_host = Pair {
+        addr: 0x0a00_0006,
+        port: 5000,
+    };
+    let mut nat = NatBox::make(rt.alloc(), pool);
+    let from_pair = Verdict::Emit(Change::Source(PORT));
+    let to_host = Verdict::Emit(Change::Dest(HOST));
+    let no_port = Verdict::Dropped(Reason::NoPort);
+    let neither = Verdict::Dropped(Reason::Neither);
+    assert_eq!(rt; nat.handle(&tcp(HOST, SERVER, 2), Some(SERVER))?, no_port);
+    assert_eq!(rt; nat.handle(&tcp(HOST, SERVER, 2), Some(PORT))?, from_pair);
+    assert_eq!(rt;
+        nat.handle(&tcp(other_host, SERVER, 2), Some(PORT))?,
+        no_port
+    );
+    assert_eq!(rt; nat.handle(&tcp(SERVER, PORT, 18), None)?, to_host);
+    assert_eq!(rt; nat.handle(&tcp(HOST, HOST, 2), None)?, neither);
+    assert_eq!(rt; nat.pair_of(Proto::Tcp, HOST), Some(PORT));
+    assert_eq!(rt; nat.owner(Proto::Udp, PORT), None);
     Ok(())
 }

@@ -152,7 +152,13 @@ impl NatBox {
         ensures err { OnErr result (self.new ≡ self.old) }
     {
         if is_outbound(&self.pool, packet) {
-            return send_out(&self.pool, &mut self.pairs, &mut self.owners, packet, choice);
+            return send_out(
+                &self.pool,
+                &mut self.pairs,
+                &mut self.owners,
+                packet,
+                choice,
+            );
         }
         if is_inbound(&self.pool, packet) {
             return Ok(in_verdict(self.owner(packet.proto, packet.dest)));
@@ -161,11 +167,7 @@ impl NatBox {
     }
 
     /// What the box does with a packet, where this pair is proposed for a new flow.
-    pub fn handle(
-        &mut self,
-        packet: &Packet,
-        choice: Option<Pair>,
-    ) -> Result<Verdict, NoMemory>
+    pub fn handle(&mut self, packet: &Packet, choice: Option<Pair>) -> Result<Verdict, NoMemory>
         ensures verdict { (flows : List Flow) → HasFlows self.old flows → IfOk result (λ verdict. verdict
             ≡ (nat_box (nat_of self.old.pool)).verdict flows (record { packet = packet.now; choice = choice })) }
         ensures next { (flows : List Flow) → HasFlows self.old flows → OnOk result (HasFlows self.new
