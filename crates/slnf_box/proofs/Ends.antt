@@ -7,12 +7,10 @@ use Rattle.std.specs.Ordering.{nat_cmp, ordering_then, is_eq, match_ordering}
 use Rattle.std.specs.Map.{lookup, remove_entry}
 use Rattle.std.specs.BTreeMap.{is_at, insert_entry}
 use Rattle.std.proofs.lemmas.Cmp.{nat_eq_equiv}
-use Rattle.std.proofs.lemmas.Bool.{and_parts, and_from, eq-eqb, cond_both}
+use Rattle.std.proofs.lemmas.Bool.{and_from, eq-eqb}
 use Rattle.slnf_base.specs.declared.addresses.Pair.{Pair}
 use Rattle.slnf_base.specs.declared.packets.Proto.{Proto}
-use Rattle.slnf_base.specs.Equal.{is_same_pair, is_same_proto}
-use Rattle.slnf_lb.specs.Box.{Pins, with_pin}
-use Rattle.slnf_lb.proofs.Same.{same_pair, same_proto}
+use Rattle.slnf_lb.specs.Box.{with_pin}
 use Rattle.slnf_box.specs.declared.pairs.End.{End}
 use Rattle.slnf_box.specs.Pairs.{end_cmp, end_of, is_same_end, pair_at, put_in, taken_from}
 
@@ -66,17 +64,6 @@ put_point es fs k proto pair value key h other_proto other =
 
 pub put_pairs : (es fs : List (End × Pair)) (k : End) (proto : Proto) (pair value : Pair) → k ≡ end_of proto pair → IsPut es fs k value → pair_at fs ≡ with_pin (pair_at es) proto pair value
 put_pairs es fs k proto pair value key h = λ i other_proto other. put_point es fs k proto pair value key h other_proto other i
-
--- a pair that is there already changes nothing
-again_point : (pins : Pins) (proto : Proto) (pair value : Pair) → pins proto pair ≡ Some value → (other_proto : Proto) (other : Pair) → pins other_proto other ≡ with_pin pins proto pair value other_proto other
-again_point pins proto pair value known other_proto other =
-    cond_both (is_same_proto other_proto proto && is_same_pair other pair) (Some value) (pins other_proto other) (λ (o : Option Pair). pins other_proto other ≡ o)
-    (λ t. let parts = and_parts (is_same_proto other_proto proto) (is_same_pair other pair) t in
-    ap (λ (q : Proto). pins q other) (same_proto other_proto proto parts.0) ∙ ap (pins proto) (same_pair other pair parts.1) ∙ known)
-    (λ f. refl)
-
-pub put_again : (pins : Pins) (proto : Proto) (pair value : Pair) → pins proto pair ≡ Some value → pins ≡ with_pin pins proto pair value
-put_again pins proto pair value known = λ i other_proto other. again_point pins proto pair value known other_proto other i
 
 -- a key is its own
 end_itself : (k : End) → is_at (end_cmp k) k ≡ true

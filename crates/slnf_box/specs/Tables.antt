@@ -13,7 +13,8 @@ use Rattle.slnf_nat.specs.Pools.{has_pair, is_outbound, is_inbound}
 -- the choice, where it is a pair of the pool that no flow of the protocol has
 abbrev pub fresh_choice : Pool → Pins → Packet → Option Pair → Option Pair
 fresh_choice pool owners packet None = None
-fresh_choice pool owners packet (Some port) = if has_pair pool port && is_free (owners packet.proto port) then Some port else None
+fresh_choice pool owners packet (Some port) =
+    if has_pair pool port && is_free (owners packet.proto port) then Some port else None
 
 -- the two tables after a packet on its way out
 abbrev pub pairs_with : Pins → Packet → Option Pair → Option Pair → Pins

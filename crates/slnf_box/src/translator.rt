@@ -48,7 +48,7 @@ fn fresh_choice(
     }
 }
 
-/// Keeps a new flow both ways, or where memory is wanting neither.
+/// Keeps a new flow both ways, or neither way where memory is wanting.
 fn keep(
     pairs: &mut PairTable,
     owners: &mut PairTable,
@@ -80,7 +80,8 @@ fn send_out(
     packet: &Packet,
     choice: Option<Pair>,
 ) -> Result<Verdict, NoMemory>
-    ensures verdict { IfOk result (λ verdict. verdict ≡ out_verdict (pair_at pairs.old packet.now.proto packet.now.source)
+    ensures verdict { IfOk result (λ verdict. verdict
+        ≡ out_verdict (pair_at pairs.old packet.now.proto packet.now.source)
         (fresh_choice pool.now (pair_at owners.old) packet.now choice)) }
     ensures pairs { OnOk result (pair_at pairs.new ≡ pairs_with (pair_at pairs.old) packet.now
         (pair_at pairs.old packet.now.proto packet.now.source)
