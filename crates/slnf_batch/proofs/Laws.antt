@@ -1,7 +1,7 @@
 -- The laws of cuts and orders that crates above cite.
-use Rattle.std.proofs.Common.{◌≡◌, ℕ, zero, suc, ◌+◌, ◌<◌, ◌≤◌, ◌==◌, Bool, true, false, if◌then◌else◌, ◌⊎◌, Option, Some, None, List, [], ◌∷◌, length, get_or, take, refl, sym, ap, ◌∙◌, inl, inr, arith, add-one, ne_eqb}
+use Rattle.std.proofs.Common.{◌≡◌, ℕ, zero, suc, ◌+◌, ◌<◌, ◌≤◌, ◌==◌, Bool, true, false, not, ◌&&◌, subst, if◌then◌else◌, ◌⊎◌, Option, Some, None, List, [], ◌∷◌, length, get_or, take, refl, sym, ap, ◌∙◌, inl, inr, arith, ne_eqb}
 use Rattle.std.specs.Prelude.{All}
-use Rattle.std.proofs.lemmas.Bool.{cases_lt}
+use Rattle.std.proofs.lemmas.Bool.{cases_lt, lt-ltb}
 use Rattle.std.proofs.lemmas.Bool.Decides.{nat_tests}
 use Rattle.std.proofs.lemmas.List.{get_or-take, length-take-le, take_more, get_or_default}
 use Rattle.std.proofs.lemmas.List.Quantifiers.{all_pairs_push}
@@ -15,7 +15,9 @@ use Rattle.std.specs.declared.cmp.Ordering.{Ordering}
 use Rattle.slnf_access.specs.declared.requests.Ask.{Ask}
 use Rattle.slnf_access.specs.declared.requests.Key.{Key}
 use Rattle.slnf_batch.specs.Order.{shard_of, GoesBefore, Ascends, ItemsDiffer}
-use Rattle.slnf_batch.specs.Cut.{Differ, KeysDiffer, StandsAmong, number_of, numbers_of, is_among, with_key, cut_after, cut_of}
+use Rattle.slnf_run.specs.Jobs.{is_among, with_key, joins, joining}
+use Rattle.slnf_run.proofs.Batches.{joining_within}
+use Rattle.slnf_batch.specs.Cut.{Differ, KeysDiffer, StandsAmong, number_of}
 
 -- a first key that isn't this one differs from it
 new_differs : (first : Option Key) (key : Key) → ¬ (first ≡ Some key) → Differ first (Some key)
@@ -35,18 +37,24 @@ none_differs None = tt
 none_differs (Some key) = tt
 
 -- a first key differs from each that it doesn't stand among
-each_differs : (first : Option Key) (firsts : List (Option Key)) → ¬ StandsAmong first firsts → (k : ℕ) (d : Option Key) → k < length firsts → Differ (get_or firsts k d) first
+each_differs : (first : Option Key) (firsts : List (Option Key)) → ¬ StandsAmong first firsts →
+    (k : ℕ) (d : Option Key) → k < length firsts → Differ (get_or firsts k d) first
 each_differs None firsts h k d inside = none_differs _
 each_differs (Some key) firsts h k d inside =
     new_differs _ key (λ e. h (k, inside, get_or_default firsts k (Some key) d inside ∙ e))
 
 -- one first key more keeps them apart where it stands among none before it
-pub KeysDiffer-more : (firsts : List (Option Key)) (place : ℕ) (first : Option Key) → place < length firsts → first ≡ get_or firsts place first → ¬ StandsAmong first (take place firsts) → KeysDiffer (take place firsts) → KeysDiffer (take (place + 1) firsts)
+pub KeysDiffer-more : (firsts : List (Option Key)) (place : ℕ) (first : Option Key) → place < length firsts →
+    first ≡ get_or firsts place first → ¬ StandsAmong first (take place firsts) → KeysDiffer (take place firsts) →
+    KeysDiffer (take (place + 1) firsts)
 KeysDiffer-more firsts place first inside at new apart =
-    rw (take_more firsts place first inside, ← at) (all_pairs_push Differ (take place firsts) first apart (each_differs first (take place firsts) new))
+    rw (take_more firsts place first inside, ← at)
+    (all_pairs_push Differ (take place firsts) first apart (each_differs first (take place firsts) new))
 
 -- no longer prefix keeps them apart where the first key at its end stands before it
-pub repeat_ends : (firsts : List (Option Key)) (place : ℕ) (first : Option Key) → place < length firsts → first ≡ get_or firsts place first → StandsAmong first (take place firsts) → (count : ℕ) → count ≤ length firsts → KeysDiffer (take count firsts) → count ≤ place
+pub repeat_ends : (firsts : List (Option Key)) (place : ℕ) (first : Option Key) → place < length firsts →
+    first ≡ get_or firsts place first → StandsAmong first (take place firsts) → (count : ℕ) → count ≤ length firsts →
+    KeysDiffer (take count firsts) → count ≤ place
 repeat_ends firsts place None inside at stands count within apart = absurd stands
 repeat_ends firsts place (Some key) inside at stands count within apart =
     elim (cases_lt place count) [
@@ -56,7 +64,8 @@ repeat_ends firsts place (Some key) inside at stands count within apart =
           let f : length (take count firsts) ≡ count = length-take-le count firsts within in
           let before : k < place = omega (arith, stands.1) in
           let early : get_or (take count firsts) k (Some key) ≡ Some key =
-          get_or-take count firsts k (Some key) (omega arith) ∙ sym (get_or-take place firsts k (Some key) before) ∙ stands.2 in
+          get_or-take count firsts k (Some key) (omega arith) ∙ sym (get_or-take place firsts k (Some key) before)
+          ∙ stands.2 in
           let late : get_or (take count firsts) place (Some key) ≡ Some key =
           get_or-take count firsts place (Some key) longer ∙ sym at in
           absurd (same_differs _ _ key early late (apart k place (Some key) before (omega arith)))
@@ -66,33 +75,60 @@ repeat_ends firsts place (Some key) inside at stands count within apart =
 -- by recursion: each first key stands neither among these keys nor before
 Apart : List ℕ → List (Option Key) → Type 0
 Apart keys [] = Unit {0}
-Apart keys (first ∷ firsts) = (is_among (number_of first) keys ≡ false) × Apart (with_key (number_of first) keys) firsts
+Apart keys (first ∷ firsts) =
+    (is_among (number_of first) keys ≡ false) × Apart (with_key (number_of first) keys) firsts
 
-cut_apart : (keys : List ℕ) (firsts : List (Option Key)) → Apart keys (take (cut_after keys (numbers_of firsts)) firsts)
+-- where there is room, a first key joins that stands among no key of the batch
+joins_new : (limit size : ℕ) (keys : List ℕ) (key : Option ℕ) → size < limit →
+    joins limit size keys key ≡ not (is_among key keys)
+joins_new limit size keys key room = ap (λ b. b && not (is_among key keys)) (lt-ltb size limit room)
+
+joining_apart : (limit size : ℕ) (keys : List ℕ) (firsts : List (Option Key)) → size + length firsts ≤ limit →
+    Apart keys (take (joining limit number_of size keys firsts) firsts)
 unfolding Apart
-cut_apart keys [] = tt
-cut_apart keys (first ∷ firsts) = by_test (is_among (number_of first) keys) refl (cut_apart (with_key (number_of first) keys) firsts)
+joining_apart limit size keys [] room = tt
+joining_apart limit size keys (first ∷ firsts) room =
+    subst (λ b. Apart keys (take (if b then suc rest else 0) (first ∷ firsts)))
+    (sym (joins_new limit size keys (number_of first) (omega arith)))
+    (by_test (is_among (number_of first) keys) refl
+    (joining_apart limit (size + 1) (with_key (number_of first) keys) firsts (omega arith)))
   where
-    by_test : (b : Bool) → is_among (number_of first) keys ≡ b → Apart (with_key (number_of first) keys) (take (cut_after (with_key (number_of first) keys) (numbers_of firsts)) firsts) → Apart keys (take (if b then 0 else cut_after (with_key (number_of first) keys) (numbers_of firsts) + 1) (first ∷ firsts))
-    by_test true e rest = tt
-    by_test false e rest = rw add-one (e, rest)
+    rest : ℕ
+    rest = joining limit number_of (size + 1) (with_key (number_of first) keys) firsts
 
-cut_longest : (keys : List ℕ) (firsts : List (Option Key)) (count : ℕ) → count ≤ length firsts → Apart keys (take count firsts) → count ≤ cut_after keys (numbers_of firsts)
+    by_test : (b : Bool) → is_among (number_of first) keys ≡ b →
+        Apart (with_key (number_of first) keys) (take rest firsts) →
+        Apart keys (take (if not b then suc rest else 0) (first ∷ firsts))
+    by_test true e more = tt
+    by_test false e more = (e, more)
+
+joining_longest : (limit size : ℕ) (keys : List ℕ) (firsts : List (Option Key)) (count : ℕ) →
+    size + length firsts ≤ limit →
+    count ≤ length firsts → Apart keys (take count firsts) → count ≤ joining limit number_of size keys firsts
 unfolding Apart
-cut_longest keys [] count within apart = within
-cut_longest keys (first ∷ firsts) zero within apart = omega arith
-cut_longest keys (first ∷ firsts) (suc count) within apart =
-    let rest = cut_longest (with_key (number_of first) keys) firsts count (omega arith) apart.1 in
-    rw apart.0 (omega arith)
+joining_longest limit size keys [] count room within apart = within
+joining_longest limit size keys (first ∷ firsts) zero room within apart = omega arith
+joining_longest limit size keys (first ∷ firsts) (suc count) room within apart =
+    let rest = joining limit number_of (size + 1) (with_key (number_of first) keys) firsts in
+    let longest = joining_longest limit (size + 1) (with_key (number_of first) keys) firsts count (omega arith)
+    (omega arith) apart.1 in
+    let new : joins limit size keys (number_of first) ≡ true =
+    joins_new limit size keys (number_of first) (omega arith) ∙ ap not apart.0 in
+    let all : joining limit number_of size keys (first ∷ firsts) ≡ suc rest =
+    ap (λ b. if b then suc rest else 0) new in
+    omega arith
 
 -- a first key is new to these keys and another where it is new to these and differs from the other
-still_new : (first other : Option Key) (keys : List ℕ) → is_among (number_of other) keys ≡ false → Differ first other → is_among (number_of other) (with_key (number_of first) keys) ≡ false
+still_new : (first other : Option Key) (keys : List ℕ) → is_among (number_of other) keys ≡ false →
+    Differ first other → is_among (number_of other) (with_key (number_of first) keys) ≡ false
 still_new None None keys h d = refl
 still_new None (Some b) keys h d = h
 still_new (Some a) None keys h d = refl
 still_new (Some a) (Some b) keys h d = grind (arith, nat_tests)
 
-was_new : (first other : Option Key) (keys : List ℕ) → is_among (number_of other) (with_key (number_of first) keys) ≡ false → (is_among (number_of other) keys ≡ false) × Differ first other
+was_new : (first other : Option Key) (keys : List ℕ) →
+    is_among (number_of other) (with_key (number_of first) keys) ≡ false →
+    (is_among (number_of other) keys ≡ false) × Differ first other
 was_new None None keys h = (refl, tt)
 was_new None (Some b) keys h = (h, tt)
 was_new (Some a) None keys h = (refl, tt)
@@ -132,30 +168,17 @@ new_to_none : (first : Option Key) → is_among (number_of first) [] ≡ false
 new_to_none None = refl
 new_to_none (Some key) = refl
 
--- no key stands twice in a cut
-pub cut_of-differ : (firsts : List (Option Key)) → KeysDiffer (take (cut_of (numbers_of firsts)) firsts)
-cut_of-differ firsts = (apart_to [] _ (cut_apart [] firsts)).1
-
--- and none is longer
-pub cut_of-longest : (firsts : List (Option Key)) (count : ℕ) → count ≤ length firsts → KeysDiffer (take count firsts) → count ≤ cut_of (numbers_of firsts)
-cut_of-longest firsts count within differ = cut_longest [] firsts count within (apart_from [] _ (λ k d h. new_to_none _) differ)
-
-cut_after-within : (keys : List ℕ) (firsts : List (Option Key)) → cut_after keys (numbers_of firsts) ≤ length firsts
-cut_after-within keys [] = omega arith
-cut_after-within keys (first ∷ firsts) = by_test (is_among (number_of first) keys) (cut_after-within (with_key (number_of first) keys) firsts)
-  where
-    by_test : (b : Bool) → cut_after (with_key (number_of first) keys) (numbers_of firsts) ≤ length firsts → (if b then 0 else cut_after (with_key (number_of first) keys) (numbers_of firsts) + 1) ≤ suc (length firsts)
-    by_test true h = omega arith
-    by_test false h = omega arith
-
-pub cut_of-within : (firsts : List (Option Key)) → cut_of (numbers_of firsts) ≤ length firsts
-cut_of-within firsts = cut_after-within [] firsts
-
--- the longest prefix in which no key stands twice is the cut
-pub cut_of-is : (firsts : List (Option Key)) (n : ℕ) → n ≤ length firsts → KeysDiffer (take n firsts) → ((count : ℕ) → count ≤ length firsts → KeysDiffer (take count firsts) → count ≤ n) → n ≡ cut_of (numbers_of firsts)
-cut_of-is firsts n within differ longest =
-    let below = cut_of-longest firsts n within differ in
-    let above = longest (cut_of (numbers_of firsts)) (cut_of-within firsts) (cut_of-differ firsts) in
+-- the longest prefix in which no key stands twice is what joins a new batch that has room for all
+pub joining_is : (limit : ℕ) (firsts : List (Option Key)) (n : ℕ) → length firsts ≤ limit → n ≤ length firsts →
+    KeysDiffer (take n firsts) →
+    ((count : ℕ) → count ≤ length firsts → KeysDiffer (take count firsts) → count ≤ n) →
+    n ≡ joining limit number_of 0 [] firsts
+joining_is limit firsts n room within differ longest =
+    let own = joining limit number_of 0 [] firsts in
+    let apart = apart_to [] _ (joining_apart limit 0 [] firsts (omega arith)) in
+    let below : n ≤ own = joining_longest limit 0 [] firsts n (omega arith) within
+    (apart_from [] _ (λ k d h. new_to_none _) differ) in
+    let above = longest own (joining_within limit number_of 0 [] firsts) apart.1 in
     omega arith
 
 -- the order of pairs of numbers
@@ -170,7 +193,8 @@ not_behind : (s t m n : ℕ) → is_lt (turn_cmp (t, n) (s, m)) ≡ false → (m
 not_behind s t m n order items = grind (arith, nat_tests)
 
 -- asks of distinct items in the order of a sort by (shard, item) ascend
-pub sorted_ascends : (shards : ℕ) (xs ys : List Ask) → IsPermutation xs ys → ItemsDiffer xs → IsSortedByKey (λ ask. (shard_of shards ask, ask.item)) turn_cmp ys → Ascends shards ys
+pub sorted_ascends : (shards : ℕ) (xs ys : List Ask) → IsPermutation xs ys → ItemsDiffer xs →
+    IsSortedByKey (λ ask. (shard_of shards ask, ask.item)) turn_cmp ys → Ascends shards ys
 sorted_ascends shards xs ys same differ sorted = λ i j d before inside.
     let key : Ask → ℕ × ℕ = λ ask. (shard_of shards ask, ask.item) in
     let alike : Ask → Ask → Bool = λ a b. a.item == b.item in
@@ -181,7 +205,8 @@ sorted_ascends shards xs ys same differ sorted = λ i j d before inside.
     not_behind _ _ _ _ order items
 
 -- the first ask comes before all others, and these ascend
-pub Ascends-head : (shards : ℕ) (ask : Ask) (asks : List Ask) → Ascends shards (ask ∷ asks) → All (GoesBefore shards ask) asks
+pub Ascends-head : (shards : ℕ) (ask : Ask) (asks : List Ask) → Ascends shards (ask ∷ asks) →
+    All (GoesBefore shards ask) asks
 Ascends-head shards ask asks h = λ k d inside. h 0 (suc k) d (omega arith) (omega arith)
 
 pub Ascends-tail : (shards : ℕ) (ask : Ask) (asks : List Ask) → Ascends shards (ask ∷ asks) → Ascends shards asks
@@ -191,7 +216,8 @@ pub ItemsDiffer-nil : ItemsDiffer []
 ItemsDiffer-nil i j d before inside = absurd (omega arith)
 
 -- no item stands twice where one ask more has another item than all of these
-pub ItemsDiffer-cons : (ask : Ask) (asks : List Ask) → All (λ other. ¬ (ask.item ≡ other.item)) asks → ItemsDiffer asks → ItemsDiffer (ask ∷ asks)
+pub ItemsDiffer-cons : (ask : Ask) (asks : List Ask) → All (λ other. ¬ (ask.item ≡ other.item)) asks →
+    ItemsDiffer asks → ItemsDiffer (ask ∷ asks)
 ItemsDiffer-cons ask asks new differ zero zero d before inside = absurd (omega arith)
 ItemsDiffer-cons ask asks new differ zero (suc j) d before inside = new j d (omega arith)
 ItemsDiffer-cons ask asks new differ (suc i) zero d before inside = absurd (omega arith)

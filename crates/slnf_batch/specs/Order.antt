@@ -9,7 +9,8 @@ shard_of shards ask = key_of ask.request % shards
 -- the one ask comes first: by its shard, and in one shard by its item
 abbrev pub GoesBefore : ℕ → Ask → Ask → Type 0
 GoesBefore shards ask other =
-    (shard_of shards ask < shard_of shards other) ⊎ ((shard_of shards ask ≡ shard_of shards other) × (ask.item < other.item))
+    (shard_of shards ask < shard_of shards other)
+    ⊎ ((shard_of shards ask ≡ shard_of shards other) × (ask.item < other.item))
 
 -- each ask comes before all behind it
 abbrev pub Ascends : ℕ → List Ask → Type 0

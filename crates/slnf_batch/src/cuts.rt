@@ -1,16 +1,17 @@
-ghost use Rattle.std.specs.Prelude.{◌≡◌, ◌≤◌, ◌↔◌, ℕ, IsTrue, length, take};
-ghost use Rattle.slnf_batch.specs.Cut.{KeysDiffer, StandsAmong, numbers_of, cut_of};
+ghost use Rattle.std.specs.Prelude.{◌≡◌, ◌≤◌, ◌↔◌, ℕ, [], IsTrue, length, take};
+ghost use Rattle.slnf_run.specs.Jobs.{joining};
+ghost use Rattle.slnf_batch.specs.Cut.{KeysDiffer, StandsAmong, number_of};
 
 use slnf_access::Key;
 
-/// How many of the next packets, which have these first keys, a batch can take: the length of the longest
-/// prefix in which no key stands twice. It takes no memory.
+/// How many of the next packets, which have these first keys, a new batch takes that has room for all of them: the
+/// length of the longest prefix in which no key stands twice. It takes no memory.
 pub fn cut(firsts: &[Option<Key>]) -> usize
     requires few { length firsts.now ≤ 32 }
     ensures within { result ≤ length firsts.now }
     ensures differ { KeysDiffer (take result firsts.now) }
     ensures longest { (count : ℕ) → count ≤ length firsts.now → KeysDiffer (take count firsts.now) → count ≤ result }
-    ensures computed { result ≡ cut_of (numbers_of firsts.now) }
+    ensures batch { (limit : ℕ) → length firsts.now ≤ limit → result ≡ joining limit number_of 0 [] firsts.now }
 {
     for (place, first) in firsts.iter().enumerate() {
         if is_repeated(*first, &firsts[..place]) {

@@ -24,11 +24,11 @@ use Rattle.slnf_run.proofs.Stops.{within_stop-none, below_stop}
 use Rattle.slnf_run.proofs.GrowthRule.{IsNext, grown_within_stop}
 
 -- incarnations of the first epoch, and of later ones
-era_of-first : (era : Era) (eras : List Era) (i : ℕ) → i < length era.actors → era_of (era ∷ eras) i ≡ 0
+pub era_of-first : (era : Era) (eras : List Era) (i : ℕ) → i < length era.actors → era_of (era ∷ eras) i ≡ 0
 era_of-first era eras i l = cond-true (nat_lt i (length era.actors)) 0 (era_of eras (i - length era.actors) + 1)
     (lt-ltb i (length era.actors) l)
 
-era_of-later : (era : Era) (eras : List Era) (i : ℕ) → length era.actors ≤ i → era_of (era ∷ eras) i
+pub era_of-later : (era : Era) (eras : List Era) (i : ℕ) → length era.actors ≤ i → era_of (era ∷ eras) i
     ≡ era_of eras (i - length era.actors) + 1
 era_of-later era eras i l = cond-false (nat_lt i (length era.actors)) 0 (era_of eras (i - length era.actors) + 1)
     (le-ltb i (length era.actors) l)
@@ -49,24 +49,24 @@ era_of-rises (era ∷ eras) i k l =
     ]
 
 -- The list so far in an epoch with so many incarnations before its end: it grew by the rule.
-record Stands {F A : Type 0} (s : Setting F A) (posts : List Post) (end : ℕ) (es : List Entry) : Type 0 where
-  grown : Grown (IsNext s posts) [] es
-  before : AllByRecursion (λ e. e.incarnation < end) es
-  short : AllByRecursion (λ e. e.stamp ≤ length es) es
+pub record Stands {F A : Type 0} (s : Setting F A) (posts : List Post) (end : ℕ) (es : List Entry) : Type 0 where
+  pub grown : Grown (IsNext s posts) [] es
+  pub before : AllByRecursion (λ e. e.incarnation < end) es
+  pub short : AllByRecursion (λ e. e.stamp ≤ length es) es
 
 -- An entry that is next, and one of an epoch's.
-record IsNextWithin {F A : Type 0} (s : Setting F A) (posts : List Post) (base count : ℕ) (es : List Entry)
+pub record IsNextWithin {F A : Type 0} (s : Setting F A) (posts : List Post) (base count : ℕ) (es : List Entry)
     (e : Entry) : Type 0 where
-  next : IsNext s posts es e
-  within : IsWithin base count e
-  short : e.stamp ≤ length es + 1
+  pub next : IsNext s posts es e
+  pub within : IsWithin base count e
+  pub short : e.stamp ≤ length es + 1
 
 -- The epoch in hand: where its actors' posts stand, and the number of their epoch.
-record IsInHand {F A : Type 0} (s : Setting F A) (posts : List Post) (number base : ℕ) (places : ℕ → ℕ)
+pub record IsInHand {F A : Type 0} (s : Setting F A) (posts : List Post) (number base : ℕ) (places : ℕ → ℕ)
     (actors : List Actor) : Type 0 where
-  posted : (k : ℕ) (actor : Actor) → slice_get actors k ≡ Some actor → slice_get posts (base + k)
+  pub posted : (k : ℕ) (actor : Actor) → slice_get actors k ≡ Some actor → slice_get posts (base + k)
       ≡ Some (post_of number places actor)
-  era : (i : ℕ) → base ≤ i → i < base + length actors → era_of s.eras i ≡ number
+  pub era : (i : ℕ) → base ≤ i → i < base + length actors → era_of s.eras i ≡ number
 
 epoch_so_far : {F A : Type 0} (s : Setting F A) (number base count k : ℕ) →
     ((i : ℕ) → base ≤ i → i < base + count → era_of s.eras i ≡ number) → k < count → (e : Entry) →
@@ -118,7 +118,7 @@ short_push es e h k =
     (each-weaker (λ f. f.stamp ≤ length es) (λ f. f.stamp ≤ length (es ++ e ∷ []))
     (λ f l. let n : f.stamp ≤ length es = l in omega arith) es h) (omega arith)
 
-next_kept : {F A : Type 0} (s : Setting F A) (way : Way) → IsLawful (era_of s.eras) way →
+pub next_kept : {F A : Type 0} (s : Setting F A) (way : Way) → IsLawful (era_of s.eras) way →
     (posts : List Post) (number base : ℕ) (places : ℕ → ℕ) (actors : List Actor) →
     IsInHand s posts number base places actors →
     IsKept s way base places actors (Stands s posts (base + length actors))

@@ -1,5 +1,5 @@
--- The entries of a run are of the packets of its lanes, each by the incarnation that took it, and of the items of
--- its sweeps.
+-- The entries of a run, and those of a schedule so far, are of the packets of its lanes, each by the incarnation that
+-- took it, and of the items of its sweeps.
 use Rattle.std.proofs.Common.{◌≡◌, ◌⊎◌, inl, inr, ℕ, zero, suc, ◌+◌, ◌*◌, ◌<◌, ◌≤◌, Bool, true, false, ◌||◌, ◌==◌, Option, Some, None, List, [], ◌∷◌, ◌++◌, length, map, slice_get, slice_index, refl, ap, sym, ◌∙◌, subst, eq-eqb, arith, add-mul, zero-add}
 use Rattle.std.specs.List.{range_with_len, AllByRecursion}
 use Rattle.std.proofs.Math.Nat.{suc-mul}
@@ -11,14 +11,14 @@ use Rattle.slnf_access.specs.declared.requests.Entry.{Entry}
 use Rattle.slnf_run.specs.Setting.{Actor, Setting, is_on, actors_of, total_of, sweeps_in}
 use Rattle.slnf_run.specs.Parts.{first_key_of, Offer, batched, offers_of, offers_at, Post, posts_of}
 use Rattle.slnf_run.specs.Items.{Item, is_item, is_of_items, sum_over, EachItem}
-use Rattle.slnf_run.specs.Run.{IsRun, IsOffered}
+use Rattle.slnf_run.specs.Run.{IsOffered}
 use Rattle.slnf_run.proofs.Splits.{IsSplit, split_at, slice_get-split}
 use Rattle.slnf_run.specs.OneBox.{IsSound, Took, NobodyTook}
 use Rattle.slnf_run.proofs.OfferRows.{has_item, items_batched, or_first, or_second, has_in_range}
 use Rattle.slnf_run.proofs.LanePosts.{actor_at}
 use Rattle.slnf_run.proofs.Taking.{offered_has, entry_offered}
-use Rattle.slnf_run.proofs.OneBoxOfRun.{IsTaker, taker, one_taker, taken_by_entry}
-use Rattle.slnf_run.proofs.Outcomes.{took_or_not}
+use Rattle.slnf_run.proofs.OneBoxOfRun.{IsTaker, taker, one_taker, taken_by_entry, took_or_not}
+use Rattle.slnf_run.proofs.Offering.{IsOffering}
 use Rattle.slnf_run.proofs.TakenRows.{taken_inside}
 use Rattle.std.proofs.lemmas.Option.{same_Some}
 use Rattle.slnf_access.proofs.Elements.{each-at, each-splits}
@@ -88,17 +88,17 @@ module _ (by : ℕ → ℕ) where
         (and_from (e.incarnation == by a) (e.item == a) it.0 it.1)
   ]
 
-module _ {F A : Type 0} (s : Setting F A) (j : List Entry) (sound : IsSound s) (run : IsRun s j) where
+module _ {F A : Type 0} (s : Setting F A) (j : List Entry) (sound : IsSound s) (rules : IsOffering s j) where
   abbrev taker_in : (lane number : ℕ) → ((i : ℕ) × Took s j lane number i) ⊎ NobodyTook s j lane number → ℕ
   taker_in lane number (inl r) = r.0
   taker_in lane number (inr none) = 0
 
   -- the incarnation that took a packet
   abbrev taker_of : ℕ → ℕ → ℕ
-  taker_of lane number = taker_in lane number (took_or_not s j sound run lane number)
+  taker_of lane number = taker_in lane number (took_or_not s j lane number)
 
   taker_is : (lane number i : ℕ) → Took s j lane number i → taker_of lane number ≡ i
-  taker_is lane number i took = go (took_or_not s j sound run lane number)
+  taker_is lane number i took = go (took_or_not s j lane number)
     where
       go : (o : ((i : ℕ) × Took s j lane number i) ⊎ NobodyTook s j lane number) → taker_in lane number o ≡ i
       go (inl r) = one_taker s j sound lane number r.0 i r.1 took
@@ -237,7 +237,7 @@ module _ {F A : Type 0} (s : Setting F A) (j : List Entry) (sound : IsSound s) (
       at before later e split =
           let p : (post : Post) × IsSplit (posts_of s j) e.incarnation post =
           split_at (posts_of s j) e.incarnation (each-at (λ e. e.incarnation < length (posts_of s j)) before later e
-          (subst (AllByRecursion (λ e. e.incarnation < length (posts_of s j))) split run.of_actors)) in
+          (subst (AllByRecursion (λ e. e.incarnation < length (posts_of s j))) split rules.of_actors)) in
           go p.0 p.1.at p.0.actor.lane refl
         where
           there : slice_get j (length before) ≡ Some e
@@ -248,13 +248,13 @@ module _ {F A : Type 0} (s : Setting F A) (j : List Entry) (sound : IsSound s) (
           go post posted None none =
               among_right packets sweeps e
               (in_sweeps 0 e.incarnation (actors_of s.eras) post.actor e (actor_at s j e.incarnation post posted) none
-              (swept_within e.incarnation e.item post none (entry_offered s j run before later e post split posted))
+              (swept_within e.incarnation e.item post none (entry_offered s j rules before later e post split posted))
               (omega arith))
           go post posted (Some lane) is =
               let on : is_on lane post.actor ≡ true = ap (λ o. elim o [ None ↦ false | Some own ↦ own == lane ]) is
               ∙ eq-eqb lane lane refl in
               let took : Took s j lane e.item e.incarnation =
-              taken_by_entry s j run lane (length before) e there (post, posted, on) in
+              taken_by_entry s j rules lane (length before) e there (post, posted, on) in
               let t : IsTaker s j lane e.item e.incarnation = taker s j lane e.item e.incarnation took in
               among_left packets sweeps e
               (in_packets 0 lane s.lanes e (taken_inside s j lane e.incarnation e.item t.post t.on t.took)

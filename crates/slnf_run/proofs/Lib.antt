@@ -1,4 +1,5 @@
 pub mod AddedEntries
+pub mod Batches
 pub mod ByCell
 pub mod CameTo
 pub mod CaseStands
@@ -26,6 +27,7 @@ pub mod Merged
 pub mod NextAccess
 pub mod OfferRows
 pub mod Offered
+pub mod Offering
 pub mod Offers
 pub mod OneBoxOfRun
 pub mod OneVisit
@@ -38,6 +40,7 @@ pub mod Pairing
 pub mod PartPosts
 pub mod PartVerdicts
 pub mod Parting
+pub mod Passing
 pub mod Picks
 pub mod Placed
 pub mod PlacesAs
@@ -47,6 +50,7 @@ pub mod RunOfGrown
 pub mod Runs
 pub mod ScheduledOnce
 pub mod Scheduling
+pub mod SoFar
 pub mod Sorting
 pub mod SoundCases
 pub mod Splits

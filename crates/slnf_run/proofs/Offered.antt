@@ -1,12 +1,11 @@
 -- Why a packet was taken, or wasn't: by the batches that its instances were offered, and their stops.
-use Rattle.std.proofs.Common.{◌≡◌, ◌⊎◌, inl, inr, ℕ, ◌<◌, ◌≤◌, Bool, true, false, cond, nat_le, Option, Some, None, List, [], ◌∷◌, length, filter, slice_get, refl, ap, sym, ◌∙◌, subst, arith}
-use Rattle.std.specs.Prelude.{IsTrue}
+use Rattle.std.proofs.Common.{◌≡◌, ◌⊎◌, inl, inr, ℕ, ◌<◌, ◌≤◌, Bool, true, false, cond, Option, Some, None, List, [], ◌∷◌, refl, sym, subst}
 use Rattle.std.specs.List.{range_with_len}
 use Rattle.std.proofs.lemmas.Bool.{and_parts, and_from}
 use Rattle.std.proofs.lemmas.Bool.Decides.{leb_tells}
 use Rattle.slnf_access.specs.declared.requests.Entry.{Entry}
 use Rattle.slnf_run.specs.Setting.{Setting, is_on}
-use Rattle.slnf_run.specs.Parts.{part_of, Offer, batch_of, is_stopped, last_of, offers_until, Post, posts_of, offers_at, taken_at}
+use Rattle.slnf_run.specs.Parts.{part_of, Offer, batch_of, is_stopped, last_of, offers_until, Post, offers_at, taken_at}
 use Rattle.slnf_run.specs.Run.{IsOffered}
 use Rattle.slnf_run.specs.OneBox.{Took, NobodyTook, WasStoppedBefore, AllStoppedBefore, WasOffered}
 use Rattle.slnf_run.proofs.OfferRows.{has_item, Rises, rises_batched}

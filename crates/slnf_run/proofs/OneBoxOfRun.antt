@@ -1,5 +1,5 @@
 -- One box explains each run of a sound setting, if it explains its list.
-use Rattle.std.proofs.Common.{◌≡◌, ◌↔◌, inl, inr, ℕ, suc, zero, ◌+◌, ◌<◌, ◌≤◌, Bool, true, false, cond, Some, List, [], ◌∷◌, length, take, drop, slice_get, refl, ap, sym, ◌∙◌, subst, zero-add, add-zero, arith}
+use Rattle.std.proofs.Common.{◌≡◌, ◌↔◌, ◌⊎◌, inl, inr, ℕ, suc, zero, ◌+◌, ◌<◌, ◌≤◌, Bool, true, false, cond, Some, None, List, [], ◌∷◌, length, take, drop, slice_get, refl, ap, sym, ◌∙◌, subst, zero-add, add-zero, arith}
 use Rattle.std.proofs.lemmas.Bool.{and_parts, and_from}
 use Rattle.std.proofs.lemmas.Option.{same_Some}
 use Rattle.slnf_base.specs.declared.packets.Verdict.TheVariants.{Dropped, Lost, Left}
@@ -13,6 +13,7 @@ use Rattle.slnf_run.specs.Parts.{Post, posts_of, taken_at}
 use Rattle.slnf_run.specs.Verdicts.{verdict_at, stand_by, takes, verdict_by, verdict_among, verdict_of}
 use Rattle.slnf_run.specs.Run.{IsRun}
 use Rattle.slnf_run.specs.OneBox.{IsAnswer, IsSound, IsOn, Took, NobodyTook, WasInHand, IsGiven, IsTold, IsOneBox, HasCome}
+use Rattle.slnf_run.proofs.Offering.{IsOffering, offering_of_run}
 use Rattle.slnf_run.proofs.OfferRows.{has_item, has_in_range}
 use Rattle.slnf_run.proofs.Taking.{entry_taken}
 use Rattle.slnf_run.proofs.LanePosts.{IsBefore, apart}
@@ -128,20 +129,62 @@ module _ {F A : Type 0} (s : Setting F A) (es : List Entry) where
       (p, at, subst (λ n. takes s es n p lane number ≡ true) (zero-add n) t) h))
       ∙ ap (λ n. verdict_by s es n h.0 number) (zero-add i)
 
-  pub taken_by_entry : IsRun s es → (lane t : ℕ) (e : Entry) → slice_get es t ≡ Some e →
+  -- somebody took a packet, or nobody did
+  found : (lane number base : ℕ) (posts : List Post) →
+      ((k : ℕ) × (post : Post) × (slice_get posts k ≡ Some post) × (takes s es (base + k) post lane number ≡ true))
+      ⊎ ((k : ℕ) (post : Post) → slice_get posts k ≡ Some post → takes s es (base + k) post lane number ≡ true → ⊥)
+  found lane number base [] = inr (λ k post h t. let no : None ≡ Some post = h in cc)
+  found lane number base (p ∷ posts) = go (takes s es base p lane number) refl (found lane number (base + 1) posts)
+    where
+      go : (b : Bool) → takes s es base p lane number ≡ b →
+          (((k : ℕ) × (post : Post) × (slice_get posts k ≡ Some post)
+          × (takes s es (base + 1 + k) post lane number ≡ true))
+          ⊎ ((k : ℕ) (post : Post) → slice_get posts k ≡ Some post → takes s es (base + 1 + k) post lane number
+          ≡ true → ⊥)) → ((k : ℕ) × (post : Post) × (slice_get (p ∷ posts) k ≡ Some post)
+          × (takes s es (base + k) post lane number ≡ true))
+          ⊎ ((k : ℕ) (post : Post) → slice_get (p ∷ posts) k ≡ Some post → takes s es (base + k) post lane number
+          ≡ true → ⊥)
+      go true w r = inl (0, p, refl, subst (λ n. takes s es n p lane number ≡ true) (sym (add-zero base)) w)
+      go false w (inl r) = inl (
+        suc r.0,
+        r.1,
+        r.2,
+        (let q : base + 1 + r.0 ≡ base + suc r.0 = omega arith in
+            subst (λ n. takes s es n r.1 lane number ≡ true) q r.3),
+      )
+      go false w (inr none) = inr all
+        where
+          all : (k : ℕ) (post : Post) → slice_get (p ∷ posts) k ≡ Some post → takes s es (base + k) post lane number
+              ≡ true → ⊥
+          all zero post h t =
+              let same : p ≡ post = same_Some p post h in
+              let yes_so : takes s es base p lane number ≡ true = ap (λ p. takes s es base p lane number) same
+              ∙ subst (λ n. takes s es n post lane number ≡ true) (add-zero base) t in
+              let no : false ≡ true = sym w ∙ yes_so in
+              cc
+          all (suc k) post h t = none k post h (let q : base + suc k ≡ base + 1 + k = omega arith in
+              subst (λ n. takes s es n post lane number ≡ true) q t)
+
+  pub took_or_not : (lane number : ℕ) → ((i : ℕ) × Took s es lane number i) ⊎ NobodyTook s es lane number
+  took_or_not lane number = elim (found lane number 0 (posts_of s es)) [
+    | inl r ↦ inl (r.0, (r.1, r.2, subst (λ n. takes s es n r.1 lane number ≡ true) (zero-add r.0) r.3))
+    | inr none ↦ inr (λ i h. none i h.0 h.1 (subst (λ n. takes s es n h.0 lane number ≡ true) (sym (zero-add i)) h.2))
+  ]
+
+  pub taken_by_entry : IsOffering s es → (lane t : ℕ) (e : Entry) → slice_get es t ≡ Some e →
       IsOn s es lane e.incarnation → Took s es lane e.item e.incarnation
-  taken_by_entry run lane t e at on = (
+  taken_by_entry rules lane t e at on = (
     on.0,
     on.1,
     and_from (is_on lane on.0.actor) (has_item e.item (taken_at s es e.incarnation on.0)) on.2
-        (entry_taken s es run (take t es) (drop (suc t) es) e on.0 (whole_at es t e at).0 on.1),
+        (entry_taken s es rules (take t es) (drop (suc t) es) e on.0 (whole_at es t e at).0 on.1),
   )
 
   pub decided_taken : IsSound s → IsRun s es → (d : ℕ) (e : Entry) (decision : Decision F) → slice_get es d ≡ Some e →
       decision_at s.scene es d ≡ Some decision → (lane : ℕ) × Took s es lane e.item e.incarnation
   decided_taken sound run d e decision at decided =
       let r : (lane : ℕ) × IsOn s es lane e.incarnation = decided_on_lane s es sound run d e decision at decided in
-      (r.0, taken_by_entry run r.0 d e at r.1)
+      (r.0, taken_by_entry (offering_of_run s es run) r.0 d e at r.1)
 
   pub given_to : IsSound s → IsRun s es → (lane number i : ℕ) → Took s es lane number i →
       IsGiven s es i number (verdict_of s es lane number)
@@ -199,7 +242,7 @@ module _ {F A : Type 0} (s : Setting F A) (es : List Entry) where
 pub told : {F A : Type 0} (s : Setting F A) (j : List Entry) → IsSound s → IsRun s j → IsTold s j
 told s j sound run = record {
   taken = decided_taken s j sound run;
-  entries = taken_by_entry s j run;
+  entries = taken_by_entry s j (offering_of_run s j run);
   one_taker = one_taker s j sound;
   left = left_of_nobody s j;
   left_alone = nobody_left s j sound run;

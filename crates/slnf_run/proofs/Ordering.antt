@@ -18,6 +18,7 @@ use Rattle.slnf_run.proofs.NextAccess.{is_next}
 use Rattle.slnf_run.proofs.Runs.{paths_of_run}
 use Rattle.slnf_run.specs.OneBox.{IsSound, IsOn, IsDecided, IsWithin, HasPlaces}
 use Rattle.slnf_run.proofs.OfferRows.{has_item, Rises, items_batched, rises_batched, or_first, or_second, has_in_range, range_has_item}
+use Rattle.slnf_run.proofs.Offering.{offering_of_run}
 use Rattle.slnf_run.proofs.Taking.{offered_has, earlier_ended_at, nothing_behind, entry_offered}
 use Rattle.slnf_run.proofs.LanePosts.{apart}
 use Rattle.slnf_run.proofs.Cuts.{whole_at}
@@ -247,11 +248,11 @@ module _ {F A : Type 0} (s : Setting F A) (j : List Entry) (sound : IsSound s) (
       let offers : List Offer = batched s.batch first 0 0 [] (range_with_len post.at count) in
       let offered : offers_at s i post ≡ offers = offers_on_lane s lane i post.at post.actor on in
       let f_offered : IsOffered f.item offers = subst (IsOffered f.item) offered
-      (entry_offered s j run (take d j) (middle_of w.0 e w.1) f post w.2 posted) in
+      (entry_offered s j (offering_of_run s j run) (take d j) (middle_of w.0 e w.1) f post w.2 posted) in
       let e_split : j ≡ (take d j ++ f ∷ w.0) ++ e ∷ w.1 = w.2 ∙ sym (append_assoc (take d j) (f ∷ w.0) (e ∷ w.1)) in
       let e_offered : IsOffered e.item offers = subst (IsOffered e.item) offered
       (subst (λ n. IsOffered e.item (offers_at s n post)) same
-      (entry_offered s j run (take d j ++ f ∷ w.0) w.1 e post e_split (ap (slice_get (posts_of s j)) same
+      (entry_offered s j (offering_of_run s j run) (take d j ++ f ∷ w.0) w.1 e post e_split (ap (slice_get (posts_of s j)) same
       ∙ posted))) in
       let range_f : (post.at ≤ f.item) × (f.item < post.at + count) =
       has_in_range f.item post.at count offers (items_batched s.batch first 0 0 [] (range_with_len post.at count))
@@ -281,9 +282,9 @@ module _ {F A : Type 0} (s : Setting F A) (j : List Entry) (sound : IsSound s) (
       ≡ first_key_of (s.scene.machine f.incarnation) (s.scene.begins f.incarnation f.item) → c < d
   entries_in_order lane c d e f at_c at_d on_e on_f between keys =
       let p : IsTaker s j lane e.item e.incarnation =
-      taker s j lane e.item e.incarnation (taken_by_entry s j run lane c e at_c on_e) in
+      taker s j lane e.item e.incarnation (taken_by_entry s j (offering_of_run s j run) lane c e at_c on_e) in
       let q : IsTaker s j lane f.item f.incarnation =
-      taker s j lane f.item f.incarnation (taken_by_entry s j run lane d f at_d on_f) in
+      taker s j lane f.item f.incarnation (taken_by_entry s j (offering_of_run s j run) lane d f at_d on_f) in
       elim (cases_order c d) [
         | inl same ↦
             let one : e ≡ f = same_Some e f (sym at_c ∙ ap (slice_get j) same ∙ at_d) in

@@ -1,5 +1,5 @@
 -- What becomes of each packet in a run that one box explains.
-use Rattle.std.proofs.Common.{◌≡◌, ◌⊎◌, inl, inr, ℕ, suc, zero, ◌+◌, ◌<◌, ◌≤◌, Bool, true, false, cond, ◌==◌, if◌then◌else◌, Option, Some, None, List, [], ◌∷◌, ◌++◌, length, map, filter_map, slice_get, refl, ap, sym, ◌∙◌, subst, append_assoc, eq-eqb, zero-add, add-zero, arith}
+use Rattle.std.proofs.Common.{◌≡◌, inl, inr, ℕ, suc, zero, ◌+◌, ◌<◌, ◌≤◌, cond, ◌==◌, if◌then◌else◌, Option, Some, None, List, [], ◌∷◌, ◌++◌, length, map, filter_map, slice_get, refl, ap, sym, ◌∙◌, subst, append_assoc, eq-eqb, arith}
 use Rattle.std.proofs.Math.Nat.{eq-or-lt_of_le}
 use Rattle.std.specs.List.{range_with_len, cons_option}
 use Rattle.std.specs.Option.{option_and_then}
@@ -13,15 +13,14 @@ use Rattle.slnf_run.specs.Scene.{Scene}
 use Rattle.slnf_run.specs.Visits.{Decision, decision_at, Visit, removal, visit_by, visits_of}
 use Rattle.slnf_run.specs.Boxes.{Box, content_through, content_after, Fits, Agrees, IsExplained}
 use Rattle.slnf_run.specs.Setting.{Setting}
-use Rattle.slnf_run.specs.Parts.{Post, posts_of}
-use Rattle.slnf_run.specs.Verdicts.{takes}
 use Rattle.slnf_run.specs.Run.{IsRun}
 use Rattle.slnf_run.proofs.Splits.{IsSplit, split_at}
 use Rattle.slnf_run.proofs.DecidedOnce.{IsDecision, is_decision, once}
 use Rattle.slnf_run.specs.OneBox.{IsSound, IsOn, Took, NobodyTook, IsDecided, NeverReachesBox, ReachesBoxOnce, IsWithin, HasPlaces, IsSeen, Fate}
 use Rattle.slnf_run.specs.OneBox.Fate.{Untaken, Begun, WithInstance, Placed}
 use Rattle.slnf_run.proofs.Offered.{all_stopped_before, was_offered}
-use Rattle.slnf_run.proofs.OneBoxOfRun.{one_taker, left_of_nobody, taken_by_entry, given_to}
+use Rattle.slnf_run.proofs.OneBoxOfRun.{one_taker, left_of_nobody, taken_by_entry, given_to, took_or_not}
+use Rattle.slnf_run.proofs.Offering.{offering_of_run}
 
 range_split : (a n d : ℕ) → a ≤ d → d < a + n → (xs : List ℕ) × (ys : List ℕ) × (range_with_len a n ≡ xs ++ d ∷ ys)
 range_split a zero d h l = absurd (omega arith)
@@ -92,7 +91,7 @@ module _ {F A : Type 0} (s : Setting F A) (j : List Entry) (sound : IsSound s) (
       IsDecided s j i number d decision → Took s j lane number i
   comes_taken lane number i d decision on h =
       subst (λ k. Took s j lane k i) h.of
-      (subst (λ n. IsOn s j lane n → Took s j lane h.e.item n) h.by (taken_by_entry s j run lane d h.e h.at) on)
+      (subst (λ n. IsOn s j lane n → Took s j lane h.e.item n) h.by (taken_by_entry s j (offering_of_run s j run) lane d h.e h.at) on)
 
   -- a decision begins with a flight
   pub begins_flying : (i k d : ℕ) (decision : Decision F) → IsDecided s j i k d decision → s.scene.begins i k
@@ -132,53 +131,11 @@ module _ {F A : Type 0} (s : Setting F A) (j : List Entry) (sound : IsSound s) (
       begins_flying i number d h.1 (subst (λ i. IsDecided s j i number d h.1) same h.3) in
       cc
 
-  -- somebody took a packet, or nobody did
-  found : (lane number base : ℕ) (posts : List Post) →
-      ((k : ℕ) × (post : Post) × (slice_get posts k ≡ Some post) × (takes s j (base + k) post lane number ≡ true))
-      ⊎ ((k : ℕ) (post : Post) → slice_get posts k ≡ Some post → takes s j (base + k) post lane number ≡ true → ⊥)
-  found lane number base [] = inr (λ k post h t. let no : None ≡ Some post = h in cc)
-  found lane number base (p ∷ posts) = go (takes s j base p lane number) refl (found lane number (base + 1) posts)
-    where
-      go : (b : Bool) → takes s j base p lane number ≡ b →
-          (((k : ℕ) × (post : Post) × (slice_get posts k ≡ Some post)
-          × (takes s j (base + 1 + k) post lane number ≡ true))
-          ⊎ ((k : ℕ) (post : Post) → slice_get posts k ≡ Some post → takes s j (base + 1 + k) post lane number
-          ≡ true → ⊥)) → ((k : ℕ) × (post : Post) × (slice_get (p ∷ posts) k ≡ Some post)
-          × (takes s j (base + k) post lane number ≡ true))
-          ⊎ ((k : ℕ) (post : Post) → slice_get (p ∷ posts) k ≡ Some post → takes s j (base + k) post lane number
-          ≡ true → ⊥)
-      go true w r = inl (0, p, refl, subst (λ n. takes s j n p lane number ≡ true) (sym (add-zero base)) w)
-      go false w (inl r) = inl (
-        suc r.0,
-        r.1,
-        r.2,
-        (let q : base + 1 + r.0 ≡ base + suc r.0 = omega arith in
-            subst (λ n. takes s j n r.1 lane number ≡ true) q r.3),
-      )
-      go false w (inr none) = inr all
-        where
-          all : (k : ℕ) (post : Post) → slice_get (p ∷ posts) k ≡ Some post → takes s j (base + k) post lane number
-              ≡ true → ⊥
-          all zero post h t =
-              let same : p ≡ post = same_Some p post h in
-              let yes_so : takes s j base p lane number ≡ true = ap (λ p. takes s j base p lane number) same
-              ∙ subst (λ n. takes s j n post lane number ≡ true) (add-zero base) t in
-              let no : false ≡ true = sym w ∙ yes_so in
-              cc
-          all (suc k) post h t = none k post h (let q : base + suc k ≡ base + 1 + k = omega arith in
-              subst (λ n. takes s j n post lane number ≡ true) q t)
-
-  pub took_or_not : (lane number : ℕ) → ((i : ℕ) × Took s j lane number i) ⊎ NobodyTook s j lane number
-  took_or_not lane number = elim (found lane number 0 (posts_of s j)) [
-    | inl r ↦ inl (r.0, (r.1, r.2, subst (λ n. takes s j n r.1 lane number ≡ true) (zero-add r.0) r.3))
-    | inr none ↦ inr (λ i h. none i h.0 h.1 (subst (λ n. takes s j n h.0 lane number ≡ true) (sym (zero-add i)) h.2))
-  ]
-
   -- What becomes of each packet, where the boxes have seen each decision.
   pub outcome : (Seen : ℕ → Decision F → Type 0) →
       ((d : ℕ) (e : Entry) (decision : Decision F) → slice_get j d ≡ Some e → decision_at s.scene j d
       ≡ Some decision → Seen d decision) → (lane number : ℕ) → Fate s Seen j lane number
-  outcome Seen see lane number = elim (took_or_not lane number) [
+  outcome Seen see lane number = elim (took_or_not s j lane number) [
     | inr none ↦ Untaken none (all_stopped_before s j lane number none) (left_of_nobody s j lane number none) (never_untaken lane number none)
     | inl r ↦ elim (given_to s j sound run lane number r.0 r.1) [
       | inl begins ↦ Begun r.0 begins.0 r.1 (was_offered s j lane number r.0 r.1) begins.1 begins.2

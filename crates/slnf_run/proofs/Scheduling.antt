@@ -36,7 +36,7 @@ makes_loose s way lawful m h =
     loose_of_own s m (own_run_of_grown s (posts_of s m) m both.0 both.1)
 
 -- its accesses have the way's stamps
-stamped_kept : {F A : Type 0} (s : Setting F A) (way : Way) (base : ℕ) (places : ℕ → ℕ) (actors : List Actor) →
+pub stamped_kept : {F A : Type 0} (s : Setting F A) (way : Way) (base : ℕ) (places : ℕ → ℕ) (actors : List Actor) →
     IsKept s way base places actors (λ es. Unit {0}) (IsStamped way.stamp)
 stamped_kept s way base places actors = record { allowed = λ es number actor ask h k e. refl; lasts = λ es e h k. tt }
 
@@ -83,7 +83,7 @@ run_of_grown s m l grown done =
     (λ es e k. k.made) [] m grown)
     (loose_of_own s m (own_run_of_grown s (posts_of s m) m grown done))
 
-made_of_laid : (eras : List Era) (shards : ℕ) (es tail : List Entry) → Grown (IsLaid (era_of eras) shards) es tail →
+pub made_of_laid : (eras : List Era) (shards : ℕ) (es tail : List Entry) → Grown (IsLaid (era_of eras) shards) es tail →
     Grown (IsStamped (stamp_after eras)) es tail → Grown (IsMade (era_of eras) shards) es tail
 made_of_laid eras shards es [] h k = tt
 made_of_laid eras shards es (e ∷ tail) h k = (

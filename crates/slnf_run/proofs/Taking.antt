@@ -9,9 +9,10 @@ use Rattle.slnf_access.proofs.Laws.{path-back}
 use Rattle.slnf_run.specs.Scene.{Scene, is_of, own_of, stand_of}
 use Rattle.slnf_run.specs.Setting.{Setting}
 use Rattle.slnf_run.specs.Parts.{part_of, of_item, Offer, batch_of, is_stopped, last_of, offers_until, Post, posts_of, offers_at, taken_at}
-use Rattle.slnf_run.specs.Run.{AllEnded, IsOffered, EarlierEnded, IsRun}
+use Rattle.slnf_run.specs.Run.{AllEnded, IsOffered, EarlierEnded}
 use Rattle.slnf_run.specs.Keeps.{HasPaths}
-use Rattle.slnf_run.proofs.Runs.{own_in_part, paths_of_run}
+use Rattle.slnf_run.proofs.Runs.{own_in_part}
+use Rattle.slnf_run.proofs.Offering.{IsOffering}
 use Rattle.slnf_run.proofs.OfferRows.{has_item, or_first, or_second}
 use Rattle.slnf_access.proofs.Elements.{each-at}
 use Rattle.std.specs.List.{AllByRecursion}
@@ -120,7 +121,7 @@ part_split before later e j split =
     ∙ ap (λ b. part_of e.incarnation before ++ cond b (e ∷ part_of e.incarnation later) (part_of e.incarnation later))
     (eq-eqb e.incarnation e.incarnation refl)
 
-module _ {F A : Type 0} (s : Setting F A) (j : List Entry) (run : IsRun s j) where
+module _ {F A : Type 0} (s : Setting F A) (j : List Entry) (rules : IsOffering s j) where
   -- the entry's item is offered
   pub entry_offered : (before later : List Entry) (e : Entry) (post : Post) → j ≡ before ++ e ∷ later →
       slice_get (posts_of s j) e.incarnation ≡ Some post → IsOffered e.item (offers_at s e.incarnation post)
@@ -128,7 +129,7 @@ module _ {F A : Type 0} (s : Setting F A) (j : List Entry) (run : IsRun s j) whe
       each-at (λ f. IsOffered f.item (offers_at s e.incarnation post)) (part_of e.incarnation before)
       (part_of e.incarnation later) e
       (subst (AllByRecursion (λ f. IsOffered f.item (offers_at s e.incarnation post)))
-      (part_split before later e j split) (run.offered e.incarnation post posted))
+      (part_split before later e j split) (rules.offered e.incarnation post posted))
 
   -- the last entry of its part is of no earlier batch
   last_batch : (before later : List Entry) (e : Entry) (post : Post) (front : List Entry) (l : Entry) → j ≡ before
@@ -144,12 +145,12 @@ module _ {F A : Type 0} (s : Setting F A) (j : List Entry) (run : IsRun s j) whe
             ∙ sym (append_assoc (part_of i before) (e ∷ front) (l ∷ [])) in
             let l_offered : IsOffered l.item offers = each-at (λ f. IsOffered f.item offers) (part_of i before
             ++ e ∷ front) [] l (subst (AllByRecursion (λ f. IsOffered f.item offers)) part
-            (run.offered i post posted)) in
+            (rules.offered i post posted)) in
             let ended : HasEnded (stand_of s.scene i l.item before) =
             earlier_ended_at s i before (batch_of e.item offers) l.item offers
-            (run.by_batch before later e post split posted) l_offered above.1 in
+            (rules.by_batch before later e post split posted) l_offered above.1 in
             let none : own_of i l.item (e ∷ later) ≡ [] =
-            nothing_behind s.scene i l.item j before (e ∷ later) (paths_of_run s j run) split ended in
+            nothing_behind s.scene i l.item j before (e ∷ later) rules.paths split ended in
             let here : of_item l.item (part_of i (e ∷ later)) ≡ [] = own_in_part i l.item (e ∷ later) ∙ none in
             let whole : part_of i (e ∷ later) ≡ (e ∷ front) ++ l ∷ [] =
             ap (λ b. cond b (e ∷ part_of i later) (part_of i later)) (eq-eqb i i refl) ∙ ap (λ xs. e ∷ xs) rest in

@@ -1,9 +1,7 @@
 -- Items, and how many have entries of a kind.
-use Rattle.std.specs.Prelude.{◌≡◌, ℕ, ◌+◌, Bool, true, false, not, ◌&&◌, ◌==◌, if◌then◌else◌, List, [], ◌∷◌}
+use Rattle.std.specs.Prelude.{◌≡◌, ℕ, ◌+◌, Bool, true, not, ◌&&◌, ◌==◌, if◌then◌else◌, List, [], ◌∷◌}
 use Rattle.std.specs.List.{list_any, AllByRecursion}
 use Rattle.slnf_access.specs.declared.requests.Entry.{Entry}
-use Rattle.slnf_access.specs.declared.requests.Reply.{Reply}
-use Rattle.slnf_access.specs.declared.requests.Reply.TheVariants.{Done, Found, Absent}
 use Rattle.slnf_access.specs.Map.{key_of}
 use Rattle.slnf_run.specs.Scene.{is_of}
 

@@ -1,6 +1,6 @@
 -- An actor's job, and what its own entries say: what it is offered in which batches, the access that it wants next,
 -- what it took, and its verdicts. Nothing here but `job_of` knows a setting or the list of all entries.
-use Rattle.std.specs.Prelude.{ℕ, ◌+◌, ◌-◌, ◌%◌, min, Bool, false, not, ◌&&◌, ◌||◌, ◌==◌, nat_lt, nat_le, if◌then◌else◌, Option, Some, None, List, [], ◌∷◌, length, filter, take, slice_index}
+use Rattle.std.specs.Prelude.{ℕ, suc, ◌+◌, ◌-◌, ◌%◌, min, Bool, false, not, ◌&&◌, ◌||◌, ◌==◌, nat_lt, nat_le, if◌then◌else◌, Option, Some, None, List, [], ◌∷◌, length, filter, take, slice_index}
 use Rattle.std.specs.List.{list_any, range_with_len}
 use Rattle.slnf_base.specs.declared.packets.Verdict.{Verdict}
 use Rattle.slnf_base.specs.declared.packets.Verdict.TheVariants.{Lost}
@@ -34,16 +34,33 @@ abbrev pub with_key : Option ℕ → List ℕ → List ℕ
 with_key None keys = keys
 with_key (Some key) keys = key ∷ keys
 
+-- an item with this first key joins a batch that has `size` items and these first keys
+abbrev pub joins : ℕ → ℕ → List ℕ → Option ℕ → Bool
+joins limit size keys first = nat_lt size limit && not (is_among first keys)
+
 -- The batches of these items: each is the longest run of next items that has at most `limit` of them, and no
 -- first key twice. The batch in hand has the number `number`, `size` items and the first keys `keys`.
 abbrev pub batched : ℕ → (ℕ → Option ℕ) → ℕ → ℕ → List ℕ → List ℕ → List Offer
 batched limit first number size keys [] = []
 batched limit first number size keys (item ∷ items) =
-    if nat_lt size limit && not (is_among (first item) keys)
+    if joins limit size keys (first item)
     then record { item = item; batch = number } ∷ batched limit first number (size + 1)
     (with_key (first item) keys) items
     else record { item = item; batch = number + 1 } ∷ batched limit first (number + 1) 1
     (with_key (first item) []) items
+
+-- how many of the next items join a batch that has `size` items and these first keys
+abbrev pub joining : {I : Type 0} → ℕ → (I → Option ℕ) → ℕ → List ℕ → List I → ℕ
+joining limit first size keys [] = 0
+joining limit first size keys (item ∷ items) =
+    if joins limit size keys (first item)
+    then suc (joining limit first (size + 1) (with_key (first item) keys) items)
+    else 0
+
+-- these items as one batch
+abbrev pub one_batch : ℕ → List ℕ → List Offer
+one_batch number [] = []
+one_batch number (item ∷ items) = record { item = item; batch = number } ∷ one_batch number items
 
 -- at most so many, where there is a quota
 abbrev pub within_quota : Option ℕ → ℕ → ℕ

@@ -19,3 +19,4 @@ pub mod Spread
 pub mod Stamps
 pub mod OneBox
 pub mod FunctionLaws
+pub mod SoFar

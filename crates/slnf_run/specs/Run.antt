@@ -1,8 +1,8 @@
 -- A list of entries is a run of a setting: the six rules.
-use Rattle.std.specs.Prelude.{◌≡◌, ◌⊎◌, ℕ, ◌%◌, ◌^◌, ◌<◌, ◌≤◌, IsTrue, Some, None, List, [], ◌∷◌, ◌++◌, length, slice_get}
+use Rattle.std.specs.Prelude.{◌≡◌, ◌⊎◌, ℕ, ◌<◌, ◌≤◌, IsTrue, Some, None, List, [], ◌∷◌, ◌++◌, length, slice_get}
 use Rattle.std.specs.List.{AllByRecursion}
 use Rattle.slnf_access.specs.declared.requests.Entry.{Entry}
-use Rattle.slnf_access.specs.Map.{key_of, IsLegal}
+use Rattle.slnf_access.specs.Map.{IsLegal}
 use Rattle.slnf_access.specs.Order.{InOrder, IsInShard}
 use Rattle.slnf_access.specs.Machines.{IsPath, HasEnded}
 use Rattle.slnf_run.specs.Setting.{Actor, Setting, era_of}

@@ -2,7 +2,7 @@
 use Rattle.std.proofs.Common.{◌≡◌, ◌≤◌, None, length, get_or, take, arith}
 use Rattle.std.proofs.lemmas.List.{get_or_default}
 use Rattle.slnf_batch.specs.Cut.{KeysDiffer}
-use Rattle.slnf_batch.proofs.Laws.{KeysDiffer-more, repeat_ends, cut_of-is}
+use Rattle.slnf_batch.proofs.Laws.{KeysDiffer-more, repeat_ends, joining_is}
 use Rattle.slnf_batch.proofs.cuts.cut.Goals as goal
 
 pub loop-place-preserved : goal.loop-place-preserved
@@ -10,7 +10,8 @@ loop-place-preserved c =
     let firsts = c.args.firsts.now in
     let place = c.loop-place.place in
     let at = get_or_default firsts place None (get_or firsts place None) c.loop-place-test.true in
-    KeysDiffer-more firsts place _ c.loop-place-test.true at (λ stands. let repeated = c.is_repeated.ensures.1 stands in cc) c.loop-place.invariant
+    KeysDiffer-more firsts place _ c.loop-place-test.true at
+    (λ stands. let repeated = c.is_repeated.ensures.1 stands in cc) c.loop-place.invariant
 
 pub returns-then-is_repeated : goal.returns-then-is_repeated
 returns-then-is_repeated c =
@@ -24,12 +25,12 @@ returns-then-is_repeated c =
       within = within;
       differ = c.loop-place.invariant;
       longest = longest;
-      computed = cut_of-is firsts place within c.loop-place.invariant longest;
+      batch = λ limit room. joining_is limit firsts place room within c.loop-place.invariant longest;
     }
 
-pub returns-clause-computed : goal.returns-clause-computed
-returns-clause-computed c =
+pub returns-clause-batch : goal.returns-clause-batch
+returns-clause-batch c limit room =
     let firsts = c.args.firsts.now in
     let place : c.loop-place.place ≡ length firsts = omega arith in
     let whole : KeysDiffer (take (length firsts) firsts) = rw (← place) c.loop-place.invariant in
-    cut_of-is firsts (length firsts) (omega arith) whole (λ count within differ. within)
+    joining_is limit firsts (length firsts) room (omega arith) whole (λ count within differ. within)

@@ -9,4 +9,6 @@ use Rattle.slnf_batch.proofs.groups.group.Goals as goal
 pub returns-clause-ascends : goal.returns-clause-ascends
 returns-clause-ascends c =
     let key : Ask → ℕ × ℕ = λ ask. (shard_of c.args.shards ask, ask.item) in
-    sorted_ascends c.args.shards c.args.asks.now c.sort_unstable_by_key.new.self c.sort_unstable_by_key.ensures.permutation c.requires.distinct (c.sort_unstable_by_key.ensures.sorted key (always_returns_same _ _ _ (λ a r f h. search rules)))
+    sorted_ascends c.args.shards c.args.asks.now c.sort_unstable_by_key.new.self
+    c.sort_unstable_by_key.ensures.permutation c.requires.distinct
+    (c.sort_unstable_by_key.ensures.sorted key (always_returns_same _ _ _ (λ a r f h. search rules)))
