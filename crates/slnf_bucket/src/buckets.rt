@@ -6,16 +6,18 @@ use slnf_access::{Entry, Held, Reply, Request};
 use slnf_base::NoMemory;
 use std::alloc::{AllocError, Global};
 use std::collections::HashMap;
+use std::hash::RandomState;
 use std::marker::Model;
 
 /// The greatest stamp.
 const LAST_STAMP: u64 = (1 << 62) - 1;
 
 /// One shard's part of the store. Its map is what its history makes from the empty map, so the history is legal.
-/// The map is hashed: an access is constant time on average. Crafted keys can slow it, and change no answer.
+/// The map is hashed with the keys of a `RandomState`: an access is constant time on average, whatever keys are asked
+/// for, and no answer tells of the state.
 #[derive(Debug, Drop)]
 pub struct Bucket {
-    held: HashMap<u128, Held>,
+    held: HashMap<u128, Held, RandomState>,
     entries: Vec<Entry>,
     clock: u64,
     shard: u32,
@@ -46,15 +48,20 @@ impl Bucket {
     ghost use Rattle.slnf_access.specs.Order.{IsHistory};
     ghost use Rattle.slnf_bucket.specs.Bucket.{IsKept, next_entry, with_entry};
 
-    /// The bucket before any access.
-    pub fn make(alloc: Global, shard: u32, shards: u32) -> Result<Bucket, NoMemory>
+    /// The bucket before any access. Its map is hashed with this state, which no clause speaks of.
+    pub fn make(
+        alloc: Global,
+        state: RandomState,
+        shard: u32,
+        shards: u32,
+    ) -> Result<Bucket, NoMemory>
         requires shard { shard < shards }
         requires shards { shards ≤ 64 }
         ensures { IfOk result
             (λ bucket. bucket.kept ≡ record { shard = shard; shards = shards; clock = 0; entries = [] }) }
     {
         Ok(Bucket {
-            held: HashMap::new(alloc),
+            held: HashMap::with_hasher(alloc, state),
             entries: Vec::new(alloc),
             clock: 0,
             shard,
@@ -153,7 +160,11 @@ impl Bucket {
 ghost use Rattle.slnf_access.specs.Map.{key_of};
 
 /// Makes the map have this at the key, and what it had at each other key.
-fn hold(held: &mut HashMap<u128, Held>, key: u128, left: Option<Held>) -> Result<(), AllocError>
+fn hold(
+    held: &mut HashMap<u128, Held, RandomState>,
+    key: u128,
+    left: Option<Held>,
+) -> Result<(), AllocError>
     ensures ok { OnOk result
         ((other : ℕ) → get nat_eq held.new other ≡ (if key == other then left else get nat_eq held.old other)) }
     ensures err { OnErr result (IsUnchanged held.old held.new) }

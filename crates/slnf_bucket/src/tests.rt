@@ -1,5 +1,6 @@
 use crate::{Bucket, BucketError};
 use slnf_access::{Key, ListStore, Reply, Request, Value};
+use std::hash::RandomState;
 use std::test::Fail;
 
 const CLIENT: Key = Key(0x0411_0000_0000_0000_0000_c000_0201_0fa0);
@@ -14,7 +15,7 @@ const LAST: u64 = (1 << 62) - 1;
 
 #[test]
 fn the_last_stamp_is_spent(rt: HostRuntime) -> Result<(), Fail> {
-    let mut bucket = Bucket::make(rt.alloc(), 0, 1)?;
+    let mut bucket = Bucket::make(rt.alloc(), RandomState::new(&rt)?, 0, 1)?;
     let read = Request::Read { key: CLIENT };
     assert_eq!(rt;
         bucket.access(0, 0, LAST, read),
@@ -27,7 +28,7 @@ fn the_last_stamp_is_spent(rt: HostRuntime) -> Result<(), Fail> {
 
 #[test]
 fn the_last_stamp_is_given(rt: HostRuntime) -> Result<(), Fail> {
-    let mut bucket = Bucket::make(rt.alloc(), 0, 1)?;
+    let mut bucket = Bucket::make(rt.alloc(), RandomState::new(&rt)?, 0, 1)?;
     let put = Request::PutIfAbsent {
         key: CLIENT,
         value: BACKEND,
@@ -42,7 +43,7 @@ fn the_last_stamp_is_given(rt: HostRuntime) -> Result<(), Fail> {
 
 #[test]
 fn an_access_sees_those_before_it(rt: HostRuntime) -> Result<(), Fail> {
-    let mut bucket = Bucket::make(rt.alloc(), 0, 1)?;
+    let mut bucket = Bucket::make(rt.alloc(), RandomState::new(&rt)?, 0, 1)?;
     bucket.reserve(4)?;
     let read = Request::Read { key: CLIENT };
     let put = Request::PutIfAbsent {
@@ -168,7 +169,7 @@ static ACCESSES: [(Request, Reply); 16] = [
 
 #[test]
 fn a_bucket_answers_as_the_plain_store(rt: HostRuntime) -> Result<(), Fail> {
-    let mut bucket = Bucket::make(rt.alloc(), 0, 1)?;
+    let mut bucket = Bucket::make(rt.alloc(), RandomState::new(&rt)?, 0, 1)?;
     let mut store = ListStore::make(rt.alloc(), 1);
     for (place, (request, expected)) in ACCESSES.iter().enumerate() {
         let item = place as u64;

@@ -33,6 +33,26 @@ pub enum PcapError {
     NoMemory,
 }
 
+impl PcapError {
+    ghost use Rattle.slnf_pcap.specs.Errors.{error_number};
+
+    /// The error's number: 1 to 7 in the order of the variants. `NoMemory` has none.
+    pub fn number(&self) -> Option<u8>
+        ensures { result ≡ error_number self.now }
+    {
+        match self {
+            PcapError::ShortHeader => Some(1),
+            PcapError::BadMagic => Some(2),
+            PcapError::BadVersion => Some(3),
+            PcapError::LinkType(_) => Some(4),
+            PcapError::TornRecord(_) => Some(5),
+            PcapError::OverSnap(_) => Some(6),
+            PcapError::TooMany => Some(7),
+            PcapError::NoMemory => None,
+        }
+    }
+}
+
 impl From<AllocError> for PcapError {
     ghost from_gives = { λ _ error. error ≡ NoMemory };
 

@@ -191,11 +191,12 @@ fn no_more_records_than_a_million_are_read(rt: HostRuntime) -> Result<(), Fail> 
 
 #[test]
 fn errors_tell_their_places(rt: HostRuntime) -> Result<(), Fail> {
-    for (error, text) in [
-        (PcapError::BadVersion, "the version isn't 2.4"),
-        (PcapError::LinkType(9), "link type 9"),
-        (PcapError::TornRecord(24), "the record at 24 is torn"),
+    for (error, number, text) in [
+        (PcapError::BadVersion, 3, "the version isn't 2.4"),
+        (PcapError::LinkType(9), 4, "link type 9"),
+        (PcapError::TornRecord(24), 5, "the record at 24 is torn"),
     ] {
+        assert_eq!(rt; error.number(), Some(number));
         assert_eq!(rt; format!(in rt.alloc(); "{error}")?.as_str(), text);
     }
     Ok(())

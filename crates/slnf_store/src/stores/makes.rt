@@ -12,9 +12,10 @@ use slnf_base::NoMemory;
 use slnf_bucket::Bucket;
 use slnf_turns::{Chronicle, Turns};
 use std::alloc::Global;
+use std::hash::RandomState;
 
 // An empty bucket for each shard.
-fn empty_buckets(alloc: Global, shards: u32) -> Result<Vec<Shard>, NoMemory>
+fn empty_buckets(alloc: Global, state: RandomState, shards: u32) -> Result<Vec<Shard>, NoMemory>
     requires most { shards ≤ 64 }
     ensures count { IfOk result (λ values. vec_len values ≡ shards) }
     ensures fresh { IfOk result (λ values. AreFresh ⟦<Shard as Chronicle>⟧.lines ⟦<Shard as Chronicle>⟧.place
@@ -22,21 +23,26 @@ fn empty_buckets(alloc: Global, shards: u32) -> Result<Vec<Shard>, NoMemory>
 {
     let mut values = Vec::with_capacity(alloc, shards as usize)?;
     for shard in 0..shards {
-        let bucket = Bucket::make(alloc, shard, shards)?;
+        let bucket = Bucket::make(alloc, state, shard, shards)?;
         values.push(Shard { bucket })?;
     }
     Ok(values)
 }
 
 impl Store {
-    /// The store of 1 to 64 shards before any access, and the root of its passes.
-    pub fn make(alloc: Global, shards: u32) -> Result<(Store, StorePass), NoMemory>
+    /// The store of 1 to 64 shards before any access, and the root of its passes. Its maps are hashed with this
+    /// state, which no clause speaks of.
+    pub fn make(
+        alloc: Global,
+        state: RandomState,
+        shards: u32,
+    ) -> Result<(Store, StorePass), NoMemory>
         requires some { 0 < shards }
         requires most { shards ≤ 64 }
         ensures shards { IfOk result (λ made. shards_of made.0 ≡ shards) }
         ensures root { IfOk result (λ made. IsOf made.0 made.1 × (made.1.known ≡ first_view) × (made.1.clock ≡ 0)) }
     {
-        let values = empty_buckets(alloc, shards)?;
+        let values = empty_buckets(alloc, state, shards)?;
         let (turns, pass) = Turns::make(alloc, values)?;
         let store = Store {
             turns,
