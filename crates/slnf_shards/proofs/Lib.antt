@@ -1,0 +1,6 @@
+mod Accesses
+mod Buckets
+mod FirstClocks
+mod Histories
+pub mod Laws
+mod Stored

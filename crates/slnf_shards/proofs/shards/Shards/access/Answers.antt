@@ -1,0 +1,89 @@
+-- the bucket of the key's shard, and its place in the store
+use Rattle.std.proofs.Common.{◌≡◌, ◌↔◌, ℕ, Err, IfOk, length, arith, subst}
+use Rattle.slnf_access.specs.declared.requests.Entry.{Entry}
+use Rattle.slnf_access.specs.Map.{key_of}
+use Rattle.slnf_bucket.specs.declared.errors.BucketError.TheVariants.{StampsSpent}
+use Rattle.slnf_shards.proofs.Buckets.{lent_of}
+use Rattle.slnf_shards.proofs.Accesses.{lend, put_back, same_entry, same_latest}
+use Rattle.slnf_shards.proofs.shards.Shards.access.Goals as goal
+
+pub access-requires-clause-shard : goal.access-requires-clause-shard
+access-requires-clause-shard c =
+    let count : c.len.result ≡ length c.self.inside.buckets.items = omega arith in
+    let lent = lend c.self.inside.buckets.items _ _ c.args.request _ c.self.invariant c.key.ensures count
+    c.index_mut-bucket.ensures.value in
+    let of = lent_of c.self.inside.buckets.items _ c.args.request _ lent in
+    let shard = of.shard_is in
+    let shards = of.shards_are in
+    let key : c.key.result.0 ≡ key_of c.args.request = c.key.ensures in
+    cc
+
+pub invariant_of-self : goal.invariant_of-self
+invariant_of-self c =
+    let count : c.len.result ≡ length c.self.inside.buckets.items = omega arith in
+    let lent = lend c.self.inside.buckets.items _ _ c.args.request _ c.self.invariant c.key.ensures count
+    c.index_mut-bucket.ensures.value in
+    let back = put_back _ _ _ c.args.clock c.args.incarnation c.args.item _ _ _ c.access.result lent c.self.view_is
+    c.access.ensures.made c.access.ensures.stamp c.access.ensures.below c.access.ensures.unchanged in
+    back.sharded
+
+pub returns-clause-made : goal.returns-clause-made
+returns-clause-made c =
+    let count : c.len.result ≡ length c.self.inside.buckets.items = omega arith in
+    let lent = lend c.self.inside.buckets.items _ _ c.args.request _ c.self.invariant c.key.ensures count
+    c.index_mut-bucket.ensures.value in
+    let back = put_back _ _ _ c.args.clock c.args.incarnation c.args.item _ _ _ c.access.result lent c.self.view_is
+    c.access.ensures.made c.access.ensures.stamp c.access.ensures.below c.access.ensures.unchanged in
+    back.made
+
+pub returns-clause-spends : goal.returns-clause-spends
+returns-clause-spends c =
+    let count : c.len.result ≡ length c.self.inside.buckets.items = omega arith in
+    let lent = lend c.self.inside.buckets.items _ _ c.args.request _ c.self.invariant c.key.ensures count
+    c.index_mut-bucket.ensures.value in
+    let back = put_back _ _ _ c.args.clock c.args.incarnation c.args.item _ _ _ c.access.result lent c.self.view_is
+    c.access.ensures.made c.access.ensures.stamp c.access.ensures.below c.access.ensures.unchanged in
+    back.spends
+
+pub returns-clause-most : goal.returns-clause-most
+returns-clause-most c =
+    let count : c.len.result ≡ length c.self.inside.buckets.items = omega arith in
+    let lent = lend c.self.inside.buckets.items _ _ c.args.request _ c.self.invariant c.key.ensures count
+    c.index_mut-bucket.ensures.value in
+    let back = put_back _ _ _ c.args.clock c.args.incarnation c.args.item _ _ _ c.access.result lent c.self.view_is
+    c.access.ensures.made c.access.ensures.stamp c.access.ensures.below c.access.ensures.unchanged in
+    back.most
+
+pub returns-clause-unchanged : goal.returns-clause-unchanged
+returns-clause-unchanged c =
+    let count : c.len.result ≡ length c.self.inside.buckets.items = omega arith in
+    let lent = lend c.self.inside.buckets.items _ _ c.args.request _ c.self.invariant c.key.ensures count
+    c.index_mut-bucket.ensures.value in
+    let back = put_back _ _ _ c.args.clock c.args.incarnation c.args.item _ _ _ c.access.result lent c.self.view_is
+    c.access.ensures.made c.access.ensures.stamp c.access.ensures.below c.access.ensures.unchanged in
+    back.unchanged
+
+pub returns-clause-reply : goal.returns-clause-reply
+returns-clause-reply c =
+    let count : c.len.result ≡ length c.self.inside.buckets.items = omega arith in
+    let lent = lend c.self.inside.buckets.items _ _ c.args.request _ c.self.invariant c.key.ensures count
+    c.index_mut-bucket.ensures.value in
+    let same = same_entry _ _ _ c.args.clock c.args.incarnation c.args.item _ _ lent c.self.view_is in
+    subst (λ (e : Entry). IfOk c.access.result (λ answer. answer.0 ≡ e.reply)) same c.access.ensures.reply
+
+pub returns-clause-stamp : goal.returns-clause-stamp
+returns-clause-stamp c =
+    let count : c.len.result ≡ length c.self.inside.buckets.items = omega arith in
+    let lent = lend c.self.inside.buckets.items _ _ c.args.request _ c.self.invariant c.key.ensures count
+    c.index_mut-bucket.ensures.value in
+    let same = same_entry _ _ _ c.args.clock c.args.incarnation c.args.item _ _ lent c.self.view_is in
+    subst (λ (e : Entry). IfOk c.access.result (λ answer. answer.1 ≡ e.stamp)) same c.access.ensures.stamp
+
+pub returns-clause-stamps_spent : goal.returns-clause-stamps_spent
+returns-clause-stamps_spent c last =
+    let count : c.len.result ≡ length c.self.inside.buckets.items = omega arith in
+    let lent = lend c.self.inside.buckets.items _ _ c.args.request _ c.self.invariant c.key.ensures count
+    c.index_mut-bucket.ensures.value in
+    let same = same_latest _ _ _ c.args.clock _ _ lent c.self.view_is in
+    subst (λ (n : ℕ). (c.access.result ≡ Err (StampsSpent last)) ↔ ((last ≡ n) × (last ≡ 4611686018427387903))) same
+    (c.access.ensures.spent last)

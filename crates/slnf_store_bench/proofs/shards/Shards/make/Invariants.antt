@@ -1,7 +1,0 @@
--- the buckets so far
-use Rattle.std.proofs.Common.{◌≡◌, length}
-use Rattle.slnf_store_bench.specs.Shards.{AreShards}
-use Rattle.slnf_store_bench.proofs.shards.Shards.make.Given as goal
-
-abbrev pub invariant-loop-shard : goal.invariant-loop-shard
-invariant-loop-shard l = (length l.buckets.items ≡ l.shard) × AreShards 0 l.fn.count l.buckets.items
