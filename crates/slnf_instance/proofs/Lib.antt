@@ -1,0 +1,11 @@
+pub mod Laws
+mod Answering
+mod Batching
+mod Coding
+mod Every
+mod Finishing
+mod Going
+mod Opening
+mod Stepping
+mod Until
+mod Wanting

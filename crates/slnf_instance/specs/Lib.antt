@@ -1,0 +1,7 @@
+pub mod Items
+pub mod Errands
+pub mod Works
+pub mod Hands
+pub mod Ends
+pub mod Instances
+pub mod Settings
