@@ -1,99 +1,133 @@
 -- The setting of a plan and its lanes.
-use Rattle.std.specs.Prelude.{ℕ, Bool, false, Option, Some, None, List, [], ◌∷◌, ◌++◌, length, map, slice_get, filter_map}
-use Rattle.std.specs.Option.{option_and_then}
+use Rattle.std.specs.Prelude.{ℕ, ◌*◌, Option, Some, None, List, refl}
 use Rattle.slnf_base.specs.declared.addresses.Pair.{Pair}
 use Rattle.slnf_base.specs.declared.packets.Packet.{Packet}
-use Rattle.slnf_base.specs.declared.packets.Verdict.{Verdict}
-use Rattle.slnf_base.specs.declared.packets.Verdict.TheVariants.{Dropped}
+use Rattle.slnf_base.specs.declared.packets.Proto.TheVariants.{Tcp}
+use Rattle.slnf_base.specs.declared.plans.Pool.{Pool}
 use Rattle.slnf_base.specs.declared.plans.Service.{Service}
-use Rattle.slnf_access.specs.declared.functions.Start.{Start}
-use Rattle.slnf_access.specs.Machines.{Machine, Stand, Ends, stand_of_start}
-use Rattle.slnf_plan.specs.declared.plan.Plan.{Plan}
+use Rattle.slnf_plan.specs.declared.plan.FunctionPlan.{FunctionPlan}
+use Rattle.slnf_plan.specs.declared.plan.FunctionPlan.TheVariants.{Nat, Firewall, Balancer}
 use Rattle.slnf_plan.specs.declared.plan.Epoch.{Epoch}
-use Rattle.slnf_plan.specs.declared.plan.InstancePlan.{InstancePlan}
-use Rattle.slnf_plan.specs.declared.plan.SweepPlan.{SweepPlan}
-use Rattle.slnf_plan.specs.declared.plan.SweepPlan.TheVariants.{No, Yes}
-use Rattle.slnf_lb.specs.Flight.{Flying}
-use Rattle.slnf_lb.specs.Machine.{lb_begins, lb_machine}
-use Rattle.slnf_lb.specs.Box.{Pins, no_pins, lb_verdict, lb_next}
-use Rattle.slnf_flight.specs.declared.lanes.Taken.{Taken}
-use Rattle.slnf_flight.specs.declared.lanes.Taken.TheVariants.{Seen, Bad}
+use Rattle.slnf_plan.specs.declared.plan.Plan.{Plan}
+use Rattle.slnf_run.specs.Scene.{Scene}
+use Rattle.slnf_run.specs.Setting.{Setting}
+use Rattle.slnf_nat.specs.Flights.{NatFlight}
+use Rattle.slnf_nat.specs.NatBox.{NatArrival}
+use Rattle.slnf_nat.specs.NatScene.{nat_scene}
+use Rattle.slnf_fw.specs.Packets.{Policy}
+use Rattle.slnf_fw.specs.Flight.{Flying as FwFlying}
+use Rattle.slnf_fw.specs.Scene.{fw_scene}
+use Rattle.slnf_lb.specs.Flight.{Flying as LbFlying}
+use Rattle.slnf_lb.specs.Scene.{LbArrival, lb_scene}
 use Rattle.slnf_flight.specs.declared.lanes.Lane.{Lane}
-use Rattle.slnf_flight.specs.Setting.{Actor, Era, Setting, era_of}
-use Rattle.slnf_flight.specs.Places.{Box}
+use Rattle.slnf_flight.specs.Lanes.{lane_sizes}
+use Rattle.slnf_flight.specs.Actors.{eras_of}
+use Rattle.slnf_flight.specs.declared.flights.AnyFlight.{AnyFlight}
+use Rattle.slnf_flight.specs.declared.flights.AnyFlight.TheVariants.{Nat as NatFlies, Firewall as FwFlies, Balancer as LbFlies}
+use Rattle.slnf_flight.specs.Flights.{nat_flight, fw_flight, lb_flight, Arrival}
+use Rattle.slnf_run.specs.Cases.{Case, case_scene}
+use Rattle.slnf_flight.specs.Begins.{begins_of, no_sweeps}
+use Rattle.slnf_nat.specs.Pools.{port_count, nat_of, nat_starts}
+use Rattle.slnf_flight.specs.NatPlan.{nat_sweeps}
+use Rattle.slnf_flight.specs.FwPlan.{policy_with, fw_starts}
+use Rattle.slnf_flight.specs.LbPlan.{lb_starts}
 
--- the actor of an instance
-abbrev pub instance_actor : InstancePlan → Actor
-instance_actor i = record { lane = Some i.lane; quota = i.quota; stop = i.stop }
+-- each function's own scene
+abbrev pub nat_own : Pool → List Epoch → List Lane → Scene NatFlight NatArrival
+nat_own pool epochs lanes =
+    nat_scene (nat_of pool) (begins_of (eras_of epochs) lanes (nat_starts pool) (nat_sweeps pool (eras_of epochs)))
 
--- the actor of an epoch's sweep, if it has one
-abbrev pub sweep_actors : SweepPlan → List Actor
-sweep_actors No = []
-sweep_actors (Yes stop) = record { lane = None; quota = None; stop = stop } ∷ []
+abbrev pub fw_own : Policy → List Epoch → List Lane → Scene FwFlying Packet
+fw_own policy epochs lanes = fw_scene policy (begins_of (eras_of epochs) lanes (fw_starts policy) no_sweeps)
 
--- an epoch's actors and schedule
-abbrev pub era_of_epoch : Epoch → Era
-era_of_epoch epoch =
-    record { actors = map instance_actor epoch.instances ++ sweep_actors epoch.sweep; schedule = epoch.schedule }
+abbrev pub lb_own : Service → List Epoch → List Lane → Scene LbFlying LbArrival
+lb_own service epochs lanes = lb_scene service (begins_of (eras_of epochs) lanes (lb_starts service epochs) no_sweeps)
 
--- the epochs of a plan
-abbrev pub eras_of : List Epoch → List Era
-eras_of epochs = map era_of_epoch epochs
-
--- the backends at these places of the service's list
-abbrev pub backends_at : Service → List ℕ → List Pair
-backends_at service places = filter_map (slice_get service.backends) places
-
--- the active backends of an epoch; an epoch that isn't there has none
-abbrev pub active_in : Service → Option Epoch → List Pair
-active_in service None = []
-active_in service (Some epoch) = backends_at service epoch.active
-
--- the lane of an actor; a sweep and an actor that isn't there have none
-abbrev pub lane_of : Option Actor → Option ℕ
-lane_of actor = option_and_then (λ a. a.lane) actor
-
--- the packet with this number of a lane
-abbrev pub packet_at : List Lane → ℕ → Option ℕ → Option Taken
-packet_at lanes number lane = option_and_then (λ l. option_and_then (λ there. slice_get there.packets number) (slice_get lanes l)) lane
-
--- how a packet begins: dropped with its reason, or as the function says. A number that no packet has begins nothing.
-abbrev pub begins_with : {F : Type 0} → (Packet → Start F) → Option Taken → Stand F
-begins_with start None = Ends None
-begins_with start (Some (Bad reason)) = Ends (Some (Dropped reason))
-begins_with start (Some (Seen packet)) = stand_of_start (start packet)
-
--- the actors of all epochs, in order of incarnations
-abbrev pub all_actors : List Era → List Actor
-all_actors [] = []
-all_actors (era ∷ eras) = era.actors ++ all_actors eras
-
--- The setting of a plan and its lanes, where each epoch has this machine, and starts packets so, by incarnation and number.
-abbrev pub plan_setting : {F : Type 0} → Plan → List Lane → (ℕ → Machine F) → (ℕ → ℕ → ℕ → Packet → Start F) → (Stand F → Verdict → Bool) → Setting F
-plan_setting plan lanes machine starts looks_back =
-    record {
-      shards = plan.shards;
-      batch = plan.batch;
-      lanes = map (λ lane. length lane.packets) lanes;
-      ports = 0;
-      eras = eras_of plan.epochs;
-      machine = λ incarnation. machine (era_of (eras_of plan.epochs) incarnation);
-      begins = λ incarnation number.
-          begins_with (starts (era_of (eras_of plan.epochs) incarnation) incarnation number)
-          (packet_at lanes number (lane_of (slice_get (all_actors (eras_of plan.epochs)) incarnation)));
-      looks_back = looks_back;
-    }
-
--- The setting of a balancer with this service.
-abbrev pub lb_setting : Plan → Service → List Lane → Setting Flying
-lb_setting plan service lanes =
-    plan_setting plan lanes (λ epoch. lb_machine service)
-    (λ epoch. lb_begins service (active_in service (slice_get plan.epochs epoch))) (λ stand verdict. false)
-
--- The ordinary balancer of a service, as a box.
-abbrev pub lb_box : Service → Box Flying Pins
-lb_box service = record {
-  empty = no_pins;
-  verdict = λ pins flight e. lb_verdict service pins flight.packet flight.choice;
-  next = λ pins flight e. lb_next service pins flight.packet flight.choice;
+-- what is seen of another function's flight
+abbrev pub blank : Arrival
+blank = record {
+  packet = record {
+    proto = Tcp;
+    source = record { addr = 0; port = 0 };
+    dest = record { addr = 0; port = 0 };
+    flags = 0;
+  };
+  choice = None;
+  time = 0;
 }
+
+-- a choice, or else zeros
+abbrev pub or_zeros : Option Pair → Pair
+or_zeros None = record { addr = 0; port = 0 }
+or_zeros (Some pair) = pair
+
+-- what a NAT's box sees
+abbrev pub nat_arrival_of : Arrival → NatArrival
+nat_arrival_of arrival = record { packet = arrival.packet; choice = arrival.choice }
+
+-- what a balancer's box sees
+abbrev pub lb_arrival_of : Arrival → LbArrival
+lb_arrival_of arrival = record { packet = arrival.packet; choice = or_zeros arrival.choice }
+
+-- how each function is a case
+abbrev pub nat_case : Case NatFlight AnyFlight NatArrival Arrival
+nat_case = record {
+  into = NatFlies;
+  own = nat_flight;
+  own_into = λ flight. refl;
+  seen = λ arrival. record { packet = arrival.packet; choice = arrival.choice; time = 0 };
+  view = nat_arrival_of;
+  view_seen = λ arrival. refl;
+  blank = blank;
+}
+
+abbrev pub fw_case : Case FwFlying AnyFlight Packet Arrival
+fw_case = record {
+  into = FwFlies;
+  own = fw_flight;
+  own_into = λ flight. refl;
+  seen = λ packet. record { packet = packet; choice = None; time = 0 };
+  view = λ arrival. arrival.packet;
+  view_seen = λ packet. refl;
+  blank = blank;
+}
+
+abbrev pub lb_case : Case LbFlying AnyFlight LbArrival Arrival
+lb_case = record {
+  into = LbFlies;
+  own = lb_flight;
+  own_into = λ flight. refl;
+  seen = λ arrival. record { packet = arrival.packet; choice = Some arrival.choice; time = 0 };
+  view = lb_arrival_of;
+  view_seen = λ arrival. refl;
+  blank = blank;
+}
+
+-- the scene of a function with these epochs and lanes
+abbrev pub scene_of : FunctionPlan → List Epoch → List Lane → Scene AnyFlight Arrival
+scene_of (Nat pool) epochs lanes = case_scene nat_case (nat_own pool epochs lanes)
+scene_of (Firewall inside rules) epochs lanes = case_scene fw_case (fw_own (policy_with inside rules) epochs lanes)
+scene_of (Balancer service) epochs lanes = case_scene lb_case (lb_own service epochs lanes)
+
+-- how many items a sweep has: the TCP and the UDP ports of the pool
+abbrev pub sweep_items_of : FunctionPlan → ℕ
+sweep_items_of (Nat pool) = 2 * port_count pool
+sweep_items_of (Firewall inside rules) = 0
+sweep_items_of (Balancer service) = 0
+
+-- the setting of these shards, batches, epochs, lanes and sweeps, with this scene
+abbrev pub setting_with : {F A : Type 0} → (shards batch : ℕ) → List Epoch → List Lane → ℕ → Scene F A → Setting F A
+setting_with shards batch epochs lanes sweep_items scene = record {
+  shards = shards;
+  batch = batch;
+  lanes = lane_sizes lanes;
+  sweep_items = sweep_items;
+  eras = eras_of epochs;
+  scene = scene;
+}
+
+-- The setting of a plan and its lanes.
+abbrev pub setting_of : Plan → List Lane → Setting AnyFlight Arrival
+setting_of plan lanes =
+    setting_with plan.shards plan.batch plan.epochs lanes (sweep_items_of plan.function)
+    (scene_of plan.function plan.epochs lanes)

@@ -1,40 +1,148 @@
 ghost use Rattle.std.specs.Prelude.{◌≡◌, ◌<◌, length, IfOk, slice_get};
-ghost use Rattle.slnf_flight.specs.Functions.{IsBalancer, IsFunctionOf};
+ghost use Rattle.slnf_run.specs.Cases.{start_as, stray_request};
+ghost use Rattle.slnf_flight.specs.declared.flights.AnyFlight.TheVariants.{Nat as NatFlies, Firewall as FwFlies, Balancer as LbFlies};
+ghost use Rattle.slnf_flight.specs.Functions.{IsFunctionOf, step_as};
 
-use slnf_access::{Function, Reply, Request, Start, Step};
-use slnf_base::{NoMemory, Packet, Pair, Row, Service, know_pair};
+use crate::flights::AnyFlight;
+use slnf_access::{Function, Key, Reply, Request, Start, Step};
+use slnf_base::{NoMemory, Packet, Pair, Row, Service, Verdict, know_pair};
+use slnf_fw::{FwFlight, FwFunction};
 use slnf_lb::{LbFlight, LbFunction};
+use slnf_nat::{NatFlight, NatFunction};
 use slnf_plan::{FunctionPlan, Plan};
 use std::alloc::Global;
 
 /// The function of a plan's epoch.
 #[derive(Debug, Drop)]
 pub enum AnyFunction {
+    Nat(NatFunction),
+    Firewall(FwFunction),
     Balancer(LbFunction),
+}
+
+/// How a NAT's packet begins, as one of any function's.
+fn nat_start(start: Start<NatFlight>) -> Start<AnyFlight>
+    ensures { result ≡ start_as NatFlies start }
+{
+    match start {
+        Start::Go(flight) => Start::Go(AnyFlight::Nat(flight)),
+        Start::Over(reason) => Start::Over(reason),
+    }
+}
+
+/// How a firewall's packet begins.
+fn fw_start(start: Start<FwFlight>) -> Start<AnyFlight>
+    ensures { result ≡ start_as FwFlies start }
+{
+    match start {
+        Start::Go(flight) => Start::Go(AnyFlight::Firewall(flight)),
+        Start::Over(reason) => Start::Over(reason),
+    }
+}
+
+/// How a balancer's packet begins.
+fn lb_start(start: Start<LbFlight>) -> Start<AnyFlight>
+    ensures { result ≡ start_as LbFlies start }
+{
+    match start {
+        Start::Go(flight) => Start::Go(AnyFlight::Balancer(flight)),
+        Start::Over(reason) => Start::Over(reason),
+    }
+}
+
+/// How a NAT's packet goes on, as one of any function's.
+fn nat_step(step: Step<NatFlight>) -> Step<AnyFlight>
+    ensures { result ≡ step_as NatFlies step }
+{
+    match step {
+        Step::Go(flight) => Step::Go(AnyFlight::Nat(flight)),
+        Step::Over(verdict) => Step::Over(verdict),
+    }
+}
+
+/// How a firewall's packet goes on.
+fn fw_step(step: Step<FwFlight>) -> Step<AnyFlight>
+    ensures { result ≡ step_as FwFlies step }
+{
+    match step {
+        Step::Go(flight) => Step::Go(AnyFlight::Firewall(flight)),
+        Step::Over(verdict) => Step::Over(verdict),
+    }
+}
+
+/// How a balancer's packet goes on.
+fn lb_step(step: Step<LbFlight>) -> Step<AnyFlight>
+    ensures { result ≡ step_as LbFlies step }
+{
+    match step {
+        Step::Go(flight) => Step::Go(AnyFlight::Balancer(flight)),
+        Step::Over(verdict) => Step::Over(verdict),
+    }
+}
+
+/// What another function's flight asks for.
+fn stray_request() -> Request
+    ensures { result ≡ stray_request }
+{
+    Request::Read { key: Key(0) }
 }
 
 impl Function for AnyFunction {
     ghost use Rattle.slnf_flight.specs.Functions.{any_behaviour, any_refuses};
 
-    type Flight = LbFlight;
+    type Flight = AnyFlight;
 
     ghost behaviour = { any_behaviour };
 
-    fn start(&self, incarnation: u64, number: u64, packet: &Packet) -> Start<LbFlight> {
+    fn start(&self, incarnation: u64, number: u64, packet: &Packet) -> Start<AnyFlight> {
         match self {
-            AnyFunction::Balancer(function) => function.start(incarnation, number, packet),
+            AnyFunction::Nat(function) => nat_start(function.start(incarnation, number, packet)),
+            AnyFunction::Firewall(function) => {
+                fw_start(function.start(incarnation, number, packet))
+            }
+            AnyFunction::Balancer(function) => {
+                lb_start(function.start(incarnation, number, packet))
+            }
         }
     }
 
-    fn next(&self, flight: &LbFlight) -> Request {
+    fn next(&self, flight: &AnyFlight) -> Request {
         match self {
-            AnyFunction::Balancer(function) => function.next(flight),
+            AnyFunction::Nat(function) => match flight {
+                AnyFlight::Nat(flight) => function.next(flight),
+                AnyFlight::Firewall(_) => stray_request(),
+                AnyFlight::Balancer(_) => stray_request(),
+            },
+            AnyFunction::Firewall(function) => match flight {
+                AnyFlight::Nat(_) => stray_request(),
+                AnyFlight::Firewall(flight) => function.next(flight),
+                AnyFlight::Balancer(_) => stray_request(),
+            },
+            AnyFunction::Balancer(function) => match flight {
+                AnyFlight::Nat(_) => stray_request(),
+                AnyFlight::Firewall(_) => stray_request(),
+                AnyFlight::Balancer(flight) => function.next(flight),
+            },
         }
     }
 
-    fn after(&self, flight: LbFlight, reply: Reply) -> Step<LbFlight> {
+    fn after(&self, flight: AnyFlight, reply: Reply) -> Step<AnyFlight> {
         match self {
-            AnyFunction::Balancer(function) => function.after(flight, reply),
+            AnyFunction::Nat(function) => match flight {
+                AnyFlight::Nat(flight) => nat_step(function.after(flight, reply)),
+                AnyFlight::Firewall(_) => Step::Over(Verdict::Lost),
+                AnyFlight::Balancer(_) => Step::Over(Verdict::Lost),
+            },
+            AnyFunction::Firewall(function) => match flight {
+                AnyFlight::Nat(_) => Step::Over(Verdict::Lost),
+                AnyFlight::Firewall(flight) => fw_step(function.after(flight, reply)),
+                AnyFlight::Balancer(_) => Step::Over(Verdict::Lost),
+            },
+            AnyFunction::Balancer(function) => match flight {
+                AnyFlight::Nat(_) => Step::Over(Verdict::Lost),
+                AnyFlight::Firewall(_) => Step::Over(Verdict::Lost),
+                AnyFlight::Balancer(flight) => lb_step(function.after(flight, reply)),
+            },
         }
     }
 
@@ -42,28 +150,27 @@ impl Function for AnyFunction {
 }
 
 impl AnyFunction {
-    /// The function of a plan's epoch. The backends and those that are active are copied.
+    /// The function of a plan's epoch. The rules, the backends and those that are active are copied.
     pub fn of(alloc: Global, plan: &Plan, epoch: usize) -> Result<AnyFunction, NoMemory>
-        requires epoch { epoch < length plan.now.epochs }
-        requires balancer { IsBalancer plan.now.function }
+        requires { epoch < length plan.now.epochs }
         ensures { IfOk result (IsFunctionOf plan.now.function (slice_get plan.now.epochs epoch)) }
     {
         let epoch = &plan.epochs.as_slice()[epoch];
         match &plan.function {
+            FunctionPlan::Nat(pool) => Ok(AnyFunction::Nat(NatFunction { pool: *pool })),
+            FunctionPlan::Firewall { inside, rules } => Ok(AnyFunction::Firewall(FwFunction {
+                inside: *inside,
+                rules: Row::from_vec(Vec::from_slice(alloc, rules.as_slice())?),
+            })),
             FunctionPlan::Balancer(service) => Ok(AnyFunction::Balancer(LbFunction {
                 service: copy_of(alloc, service)?,
                 active: active_of(alloc, service, epoch.active.as_slice())?,
             })),
-            FunctionPlan::Nat(_) => unreachable!(),
-            FunctionPlan::Firewall {
-                inside: _,
-                rules: _,
-            } => unreachable!(),
         }
     }
 }
 
-ghost use Rattle.slnf_flight.specs.PlanSetting.{backends_at};
+ghost use Rattle.slnf_flight.specs.LbPlan.{backends_at};
 ghost use Rattle.std.specs.Prelude.{nat_lt, IsTrue};
 ghost use Rattle.std.specs.List.{list_all};
 ghost use Rattle.slnf_base.specs.Ranges.{is_pair};

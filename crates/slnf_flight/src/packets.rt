@@ -1,7 +1,7 @@
 ghost use Rattle.std.specs.Prelude.{◌≡◌, ◌^◌, ◌<◌, Some};
 ghost use Rattle.slnf_access.specs.Machines.{stand_of_start};
+ghost use Rattle.slnf_flight.specs.Begins.{begins_with};
 ghost use Rattle.slnf_flight.specs.Lanes.{packets_on};
-ghost use Rattle.slnf_flight.specs.PlanSetting.{begins_with};
 
 use crate::lanes::{Lane, Taken};
 use slnf_access::{Function, Start};
@@ -25,7 +25,8 @@ pub fn begin<F: Function>(
 ) -> Start<F::Flight>
     requires incarnation { incarnation < 2 ^ 32 }
     requires number { number < 2 ^ 32 }
-    ensures { stand_of_start result ≡ begins_with ((F.behaviour function.now).begins incarnation number) (Some taken.now) }
+    ensures { stand_of_start result
+        ≡ begins_with ((F.behaviour function.now).begins incarnation number) (Some taken.now) }
 {
     match taken {
         Taken::Seen(packet) => function.start(incarnation, number as u64, packet),

@@ -1,37 +1,42 @@
-//! The laws of runs: each stands as the contract of a function that does nothing.
-ghost use Rattle.std.specs.Prelude.{◌≡◌, ◌<◌, ◌^◌, ℕ, List, length, IsTrue};
-ghost use Rattle.std.specs.List.{list_all};
-ghost use Rattle.slnf_base.specs.declared.plans.Service.{Service};
-ghost use Rattle.slnf_access.specs.declared.requests.Entry.{Entry};
-ghost use Rattle.slnf_access.specs.Map.{IsLegal};
-ghost use Rattle.slnf_access.specs.Machines.{IsPath};
-ghost use Rattle.slnf_plan.specs.declared.plan.Plan.{Plan};
-ghost use Rattle.slnf_lb.specs.Machine.{lb_machine};
-ghost use Rattle.slnf_lb.specs.Box.{IsSameMap};
-ghost use Rattle.slnf_base.specs.Ranges.{is_pair};
-ghost use Rattle.slnf_flight.specs.declared.lanes.Lane.{Lane};
-ghost use Rattle.slnf_flight.specs.Setting.{Setting};
-ghost use Rattle.slnf_flight.specs.Parts.{part_of, of_item};
-ghost use Rattle.slnf_flight.specs.Run.{IsRun};
-ghost use Rattle.slnf_flight.specs.Scheduled.{IsScheduled};
-ghost use Rattle.slnf_flight.specs.OneBox.{IsOneBox};
-ghost use Rattle.slnf_lb.specs.Pins.{PinsStay};
-ghost use Rattle.slnf_flight.specs.PlanSetting.{lb_setting, lb_box};
+//! The law of a plan's function: it stands as the contract of a function that does nothing.
+ghost use Rattle.std.specs.Prelude.{◌≡◌, ℕ, Option};
+ghost use Rattle.slnf_base.specs.declared.packets.Packet.{Packet};
+ghost use Rattle.slnf_access.specs.declared.requests.Reply.{Reply};
+ghost use Rattle.slnf_access.specs.declared.functions.Start.TheVariants.{Go as StartGo};
+ghost use Rattle.slnf_access.specs.declared.functions.Step.TheVariants.{Go as StepGo};
+ghost use Rattle.slnf_access.specs.Machines.{stand_of_step};
+ghost use Rattle.slnf_plan.specs.declared.plan.Epoch.{Epoch};
+ghost use Rattle.slnf_plan.specs.declared.plan.FunctionPlan.{FunctionPlan};
+ghost use Rattle.slnf_flight.specs.declared.flights.AnyFlight.{AnyFlight};
+ghost use Rattle.slnf_flight.specs.declared.functions.AnyFunction.{AnyFunction};
+ghost use Rattle.slnf_flight.specs.declared.lanes.Taken.{Taken};
+ghost use Rattle.slnf_flight.specs.AnyFunction.{any_machine, any_starts};
+ghost use Rattle.slnf_flight.specs.Begins.{begins_with};
+ghost use Rattle.slnf_flight.specs.Flights.{IsPacketFlight};
+ghost use Rattle.slnf_flight.specs.Functions.{any_behaviour, IsFunctionOf};
 
-/// The journal of a schedule is a run, and the only one that the schedule makes, however many rounds are counted.
-pub fn schedule_is_run<F>()
-    ensures run { (s : Setting F) (j : List Entry) → IsScheduled s j → length j < 2 ^ 62 → IsRun s j }
-    ensures one { (s : Setting F) (j k : List Entry) → IsScheduled s j → IsScheduled s k → j ≡ k }
-{}
-
-/// One ordinary balancer explains each legal list that is made of a balancer's paths, whole or not, and no client's backend
-/// changes in it.
-pub fn balancer_is_one_box()
-    ensures one_box { (plan : Plan) (service : Service) (lanes : List Lane) (j : List Entry)
-        → IsTrue (list_all is_pair service.backends) → IsLegal j
-        → ((incarnation item : ℕ) → IsPath (lb_machine service) ((lb_setting plan service lanes).begins incarnation item) (of_item item (part_of incarnation j)))
-        → IsOneBox (lb_setting plan service lanes) (lb_box service) IsSameMap j }
-    ensures pins_stay { (plan : Plan) (service : Service) (lanes : List Lane) (j : List Entry) → IsLegal j
-        → ((incarnation item : ℕ) → IsPath (lb_machine service) ((lb_setting plan service lanes).begins incarnation item) (of_item item (part_of incarnation j)))
-        → PinsStay j }
+/// The function of a plan's epoch begins, asks, goes on and decides as the plan's machine does, where the flight is a
+/// packet's. Its packets begin as packets' flights and stay such, so that whole paths of packets are the machine's.
+pub fn function_is_plans()
+    ensures starts { (plan_function : FunctionPlan) (epoch : Option Epoch) (function : AnyFunction)
+        → IsFunctionOf plan_function epoch function → (incarnation number : ℕ) (packet : Packet)
+        → (any_behaviour function).begins incarnation number packet
+        ≡ any_starts plan_function epoch incarnation number packet }
+    ensures begins { (plan_function : FunctionPlan) (epoch : Option Epoch) (function : AnyFunction)
+        → IsFunctionOf plan_function epoch function → (incarnation number : ℕ) (taken : Option Taken)
+        → begins_with ((any_behaviour function).begins incarnation number) taken
+        ≡ begins_with (any_starts plan_function epoch incarnation number) taken }
+    ensures asks { (plan_function : FunctionPlan) (epoch : Option Epoch) (function : AnyFunction)
+        → IsFunctionOf plan_function epoch function → (flight : AnyFlight)
+        → (any_behaviour function).asks flight ≡ (any_machine plan_function).asks flight }
+    ensures goes { (plan_function : FunctionPlan) (epoch : Option Epoch) (function : AnyFunction)
+        → IsFunctionOf plan_function epoch function → (flight : AnyFlight) (reply : Reply) → IsPacketFlight flight
+        → stand_of_step ((any_behaviour function).goes flight reply) ≡ (any_machine plan_function).goes flight reply }
+    ensures decided { (plan_function : FunctionPlan) (epoch : Option Epoch) (function : AnyFunction)
+        → IsFunctionOf plan_function epoch function → (flight : AnyFlight)
+        → (any_behaviour function).decided flight ≡ (any_machine plan_function).decided flight }
+    ensures first { (function : AnyFunction) (incarnation number : ℕ) (packet : Packet) (flight : AnyFlight)
+        → (any_behaviour function).begins incarnation number packet ≡ StartGo flight → IsPacketFlight flight }
+    ensures next { (function : AnyFunction) (flight next : AnyFlight) (reply : Reply)
+        → (any_behaviour function).goes flight reply ≡ StepGo next → IsPacketFlight next }
 {}

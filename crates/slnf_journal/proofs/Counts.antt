@@ -2,7 +2,7 @@
 use Rattle.std.proofs.Common.{◌≡◌, ℕ, ◌+◌, List, [], ◌∷◌, length, refl, arith}
 use Rattle.slnf_base.specs.declared.packets.Verdict.{Verdict}
 use Rattle.slnf_base.specs.declared.packets.Verdict.TheVariants.{Emit, Dropped, Lost, Left}
-use Rattle.slnf_flight.specs.Verdicts.{left_of, left_in}
+use Rattle.slnf_run.specs.Verdicts.{left_of, left_in}
 use Rattle.slnf_journal.specs.declared.summary.Ending.TheVariants as ending
 use Rattle.slnf_journal.specs.Summary.{count_of, count_in, packets_in}
 

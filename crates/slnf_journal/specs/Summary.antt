@@ -3,7 +3,7 @@ use Rattle.std.specs.Prelude.{ℕ, ◌+◌, Bool, true, false, if◌then◌else�
 use Rattle.slnf_base.specs.declared.packets.Verdict.{Verdict}
 use Rattle.slnf_base.specs.declared.packets.Verdict.TheVariants.{Emit, Dropped, Lost, Left}
 use Rattle.slnf_access.specs.declared.requests.Entry.{Entry}
-use Rattle.slnf_flight.specs.Verdicts.{left_in}
+use Rattle.slnf_run.specs.Verdicts.{left_in}
 use Rattle.slnf_journal.specs.declared.summary.Ending.{Ending}
 use Rattle.slnf_journal.specs.declared.summary.Ending.TheVariants as ending
 

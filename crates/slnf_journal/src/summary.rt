@@ -1,6 +1,6 @@
 ghost use Rattle.std.specs.Prelude.{◌≡◌, ◌+◌, ◌++◌, List, IfOk};
 ghost use Rattle.slnf_base.specs.declared.packets.Verdict.{Verdict};
-ghost use Rattle.slnf_flight.specs.Verdicts.{left_in};
+ghost use Rattle.slnf_run.specs.Verdicts.{left_in};
 ghost use Rattle.slnf_journal.specs.Summary.{ends_as, count_of, count_in, emitted_in, dropped_in, lost_in, packets_in, summary_text};
 
 use crate::lines::Lines;

@@ -46,3 +46,17 @@ impl Model for NatFlight {
 
     ghost view = { λ f. flight_of f.course };
 }
+
+impl NatFlight {
+    ghost use Rattle.slnf_nat.specs.Behaviour.{IsPacketFlight};
+
+    /// The flight is a packet's, and no sweep's port's. It does nothing.
+    pub fn know_packet(&self)
+        ensures { IsPacketFlight self.now }
+    {
+        match self.course {
+            Course::Out(_, _, _) => {}
+            Course::In(_, _) => {}
+        }
+    }
+}

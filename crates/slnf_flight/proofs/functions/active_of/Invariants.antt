@@ -2,7 +2,7 @@
 use Rattle.std.proofs.Common.{◌≡◌, ◌++◌, drop, vec_len, IsTrue}
 use Rattle.std.specs.List.{list_all}
 use Rattle.slnf_base.specs.Ranges.{is_pair}
-use Rattle.slnf_flight.specs.PlanSetting.{backends_at}
+use Rattle.slnf_flight.specs.LbPlan.{backends_at}
 use Rattle.slnf_flight.proofs.functions.active_of.Given as goal
 
 abbrev pub invariant-loop-place : goal.invariant-loop-place
