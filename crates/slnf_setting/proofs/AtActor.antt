@@ -8,7 +8,7 @@ use Rattle.slnf_access.specs.declared.functions.Start.{Start}
 use Rattle.slnf_access.specs.Machines.{Stand}
 use Rattle.slnf_run.specs.Setting.{Actor, Era, era_of, base_of, actors_of, own_base}
 use Rattle.slnf_flight.specs.declared.lanes.Lane.{Lane}
-use Rattle.slnf_setting.specs.Begins.{lane_begins, actor_begins, begins_of}
+use Rattle.slnf_flight.specs.Begins.{lane_begins, actor_begins, begins_of}
 
 -- the epoch of an incarnation
 pub era_at : (eras : List Era) (number k : ℕ) (era : Era) → slice_get eras number ≡ Some era → k < length era.actors

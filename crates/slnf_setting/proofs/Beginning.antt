@@ -8,9 +8,10 @@ use Rattle.slnf_access.specs.Machines.{Stand}
 use Rattle.slnf_run.specs.Setting.{Actor, Era, is_on, actors_of}
 use Rattle.slnf_flight.specs.declared.lanes.Taken.{Taken}
 use Rattle.slnf_flight.specs.declared.lanes.Lane.{Lane}
-use Rattle.slnf_setting.specs.Lanes.{lane_sizes}
-use Rattle.slnf_flight.specs.PlanSetting.{packet_at, begins_with}
-use Rattle.slnf_setting.specs.Begins.{lane_begins, actor_begins, begins_of}
+use Rattle.slnf_flight.specs.Lanes.{lane_sizes}
+use Rattle.slnf_flight.specs.Lanes.{packet_at}
+use Rattle.slnf_flight.specs.Begins.{begins_with}
+use Rattle.slnf_flight.specs.Begins.{lane_begins, actor_begins, begins_of}
 
 -- an actor on a lane has this lane
 pub lane_is : (lane : ℕ) (actor : Actor) → IsTrue (is_on lane actor) → actor.lane ≡ Some lane

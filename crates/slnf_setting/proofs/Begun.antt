@@ -9,8 +9,9 @@ use Rattle.slnf_run.proofs.NextAccess.{same_flight}
 use Rattle.slnf_flight.specs.declared.lanes.Taken.{Taken}
 use Rattle.slnf_flight.specs.declared.lanes.Taken.TheVariants.{Seen, Bad}
 use Rattle.slnf_flight.specs.declared.lanes.Lane.{Lane}
-use Rattle.slnf_flight.specs.PlanSetting.{packet_at, begins_with}
-use Rattle.slnf_setting.specs.Begins.{lane_begins, actor_begins, begins_of}
+use Rattle.slnf_flight.specs.Lanes.{packet_at}
+use Rattle.slnf_flight.specs.Begins.{begins_with}
+use Rattle.slnf_flight.specs.Begins.{lane_begins, actor_begins, begins_of}
 
 -- A packet of a lane that starts as this flight.
 pub record IsStarted {F : Type 0} (lanes : List Lane) (starts : ℕ → ℕ → Packet → Start F) (i k : ℕ)

@@ -10,7 +10,7 @@ use Rattle.slnf_plan.specs.declared.plan.SweepPlan.{SweepPlan}
 use Rattle.slnf_plan.specs.declared.plan.SweepPlan.TheVariants.{No, Yes}
 use Rattle.slnf_plan.specs.Ranges.{is_instance, has_instances}
 use Rattle.slnf_run.specs.Setting.{Actor, actors_of}
-use Rattle.slnf_setting.specs.Actors.{instance_actor, sweep_actors, era_of_epoch, eras_of}
+use Rattle.slnf_flight.specs.Actors.{instance_actor, sweep_actors, era_of_epoch, eras_of}
 
 one_sweep : (sweep : SweepPlan) → length (sweep_actors sweep) ≤ 1
 one_sweep No = omega arith

@@ -20,20 +20,23 @@ use Rattle.slnf_run.specs.Keeps.{HasPaths}
 use Rattle.slnf_run.specs.Images.{stand_as}
 use Rattle.slnf_run.specs.OneBox.{IsSound}
 use Rattle.slnf_flight.specs.declared.lanes.Lane.{Lane}
-use Rattle.slnf_setting.specs.Lanes.{lane_sizes}
-use Rattle.slnf_setting.specs.Begins.{begins_of, no_sweeps}
+use Rattle.slnf_flight.specs.Lanes.{lane_sizes}
+use Rattle.slnf_flight.specs.Begins.{begins_of, no_sweeps}
 use Rattle.slnf_setting.proofs.Beginning.{begins_in_sweep}
 use Rattle.slnf_run.proofs.WholeCases.{own_paths}
+use Rattle.slnf_run.proofs.Offering.{IsOffering, offering_of_run}
 use Rattle.slnf_run.proofs.Itemized.{each_of_all, sum_most, sum_append, packets, packets_few, sweeps, sweeps_few, each_of_sweeps, of_these, each_item_weaker}
 use Rattle.slnf_nat.specs.Flights.{Out, In, Sweep}
 use Rattle.slnf_fw.specs.Bound.{IsBounded}
-use Rattle.slnf_setting.specs.Actors.{instance_actor, sweep_actors, eras_of}
-use Rattle.slnf_setting.specs.Flights.{AnyFlight, NatFlies, FwFlies, LbFlies, Arrival}
+use Rattle.slnf_flight.specs.Actors.{instance_actor, sweep_actors, eras_of}
+use Rattle.slnf_flight.specs.declared.flights.AnyFlight.{AnyFlight}
+use Rattle.slnf_flight.specs.declared.flights.AnyFlight.TheVariants.{Nat as NatFlies, Firewall as FwFlies, Balancer as LbFlies}
+use Rattle.slnf_flight.specs.Flights.{Arrival}
 use Rattle.slnf_setting.specs.Fits.{has_types}
 use Rattle.slnf_nat.specs.Pools.{port_count, nat_starts}
-use Rattle.slnf_setting.specs.NatPlan.{nat_sweeps}
-use Rattle.slnf_setting.specs.FwPlan.{policy_with, fw_starts}
-use Rattle.slnf_setting.specs.PlanSetting.{fw_own, fw_case, scene_of, sweep_items_of, setting_with, setting_of}
+use Rattle.slnf_flight.specs.NatPlan.{nat_sweeps}
+use Rattle.slnf_flight.specs.FwPlan.{policy_with, fw_starts}
+use Rattle.slnf_flight.specs.PlanSetting.{fw_own, fw_case, scene_of, sweep_items_of, setting_with, setting_of}
 use Rattle.slnf_setting.specs.Bound.{most_at, others_on, most_in, IsBoundedFor, IsSweep, AreItemsOf}
 use Rattle.slnf_setting.proofs.FwWhole.{fw_flights}
 use Rattle.slnf_nat.proofs.PacketEnds.{item_sweeps}
@@ -188,21 +191,25 @@ pub fewer_of_items : (plan : Plan) (lanes : List Lane) (packets sweeps : List It
 fewer_of_items plan lanes ps ws es types few legal paths are =
     few_by plan lanes es ps ws few legal plan.function types paths are
 
--- and each run is one.
-pub items_of_run : (plan : Plan) (lanes : List Lane) (es : List Entry) → IsRun (setting_of plan lanes) es
+-- and each run is one, and each list of accesses so far.
+pub items_of_offering : (plan : Plan) (lanes : List Lane) (es : List Entry) → IsOffering (setting_of plan lanes) es
     → (packets sweeps : List Item) × AreItemsOf (setting_of plan lanes) packets sweeps es
-items_of_run plan lanes es run =
+items_of_offering plan lanes es rules =
     let s : Setting AnyFlight Arrival = setting_of plan lanes in
     let sound : IsSound (setting_of plan lanes) = plan_sound plan lanes in
-    let p : length (packets s es sound run) ≡ total_of s.lanes = packets_few s es sound run in
-    let w : length (sweeps s es sound run) ≡ sweeps_in
-    (actors_of s.eras) * s.sweep_items = sweeps_few s es sound run in (
-      packets s es sound run,
-      sweeps s es sound run,
+    let p : length (packets s es sound rules) ≡ total_of s.lanes = packets_few s es sound rules in
+    let w : length (sweeps s es sound rules) ≡ sweeps_in
+    (actors_of s.eras) * s.sweep_items = sweeps_few s es sound rules in (
+      packets s es sound rules,
+      sweeps s es sound rules,
       record {
-        of = of_these s es sound run;
+        of = of_these s es sound rules;
         few = omega (arith, p);
-        swept = each_of_sweeps s es sound run (λ i k. IsSweep s.eras i) (λ i k actor at none. (actor, at, none));
+        swept = each_of_sweeps s es sound rules (λ i k. IsSweep s.eras i) (λ i k actor at none. (actor, at, none));
         items = omega (arith, w);
       },
     )
+
+pub items_of_run : (plan : Plan) (lanes : List Lane) (es : List Entry) → IsRun (setting_of plan lanes) es
+    → (packets sweeps : List Item) × AreItemsOf (setting_of plan lanes) packets sweeps es
+items_of_run plan lanes es run = items_of_offering plan lanes es (offering_of_run (setting_of plan lanes) es run)

@@ -7,7 +7,7 @@ use Rattle.slnf_base.specs.declared.packets.Packet.{Packet}
 use Rattle.slnf_base.specs.Ranges.{IsPair, is_pair}
 use Rattle.slnf_flight.specs.declared.lanes.Taken.TheVariants.{Seen}
 use Rattle.slnf_flight.specs.declared.lanes.Lane.{Lane}
-use Rattle.slnf_flight.specs.PlanSetting.{packet_at}
+use Rattle.slnf_flight.specs.Lanes.{packet_at}
 use Rattle.slnf_flight.specs.Ranges.{is_taken}
 use Rattle.slnf_setting.proofs.LanesApart.{all_at}
 

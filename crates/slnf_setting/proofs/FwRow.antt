@@ -31,9 +31,9 @@ use Rattle.slnf_fw.specs.declared.flights.FwState.TheVariants.{Look}
 use Rattle.slnf_fw.specs.Machine.{fw_key, fw_value}
 use Rattle.slnf_flight.specs.declared.lanes.Taken.TheVariants.{Seen, Bad}
 use Rattle.slnf_flight.specs.declared.lanes.Lane.{Lane}
-use Rattle.slnf_setting.specs.Flights.{FwFlies}
-use Rattle.slnf_setting.specs.FwPlan.{policy_with}
-use Rattle.slnf_setting.specs.PlanSetting.{setting_of}
+use Rattle.slnf_flight.specs.declared.flights.AnyFlight.TheVariants.{Firewall as FwFlies}
+use Rattle.slnf_flight.specs.FwPlan.{policy_with}
+use Rattle.slnf_flight.specs.PlanSetting.{setting_of}
 use Rattle.slnf_setting.proofs.PlanSchedules.{run_of_schedule}
 use Rattle.slnf_setting.proofs.RowParts.{lane_of, epoch_of, on_lane, entry, plan_of}
 use Rattle.slnf_setting.specs.OneBoxOfPlan.{any_fw_box, IsOneBoxOfPlan}

@@ -24,7 +24,7 @@ use Rattle.slnf_run.specs.Scheduled.{usual_way, IsScheduled}
 use Rattle.slnf_setting.proofs.FwRow.{ten, between_any, all_out, client, server}
 use Rattle.slnf_flight.specs.declared.lanes.Taken.TheVariants.{Seen}
 use Rattle.slnf_flight.specs.declared.lanes.Lane.{Lane}
-use Rattle.slnf_setting.specs.PlanSetting.{setting_of}
+use Rattle.slnf_flight.specs.PlanSetting.{setting_of}
 use Rattle.slnf_setting.proofs.RowParts.{lane_of, epoch_of, on_lane, entry, plan_of}
 
 -- inbound TCP to port 5000, and inbound UDP

@@ -27,12 +27,12 @@ use Rattle.slnf_fw.specs.Box.{fw_box, IsSameConns}
 use Rattle.slnf_fw.specs.Scene.{IsFirst, BeginsFlights}
 use Rattle.slnf_fw.proofs.Laws.{fw_explained, fw_first}
 use Rattle.slnf_flight.specs.declared.lanes.Lane.{Lane}
-use Rattle.slnf_setting.specs.Actors.{eras_of}
-use Rattle.slnf_setting.specs.Begins.{begins_of, no_sweeps}
+use Rattle.slnf_flight.specs.Actors.{eras_of}
+use Rattle.slnf_flight.specs.Begins.{begins_of, no_sweeps}
 use Rattle.slnf_run.specs.FunctionLaws.{IsFunction}
 use Rattle.slnf_setting.proofs.Fitting.{lanes_fit}
-use Rattle.slnf_setting.specs.FwPlan.{fw_starts}
-use Rattle.slnf_setting.specs.PlanSetting.{fw_own, fw_case, setting_with}
+use Rattle.slnf_flight.specs.FwPlan.{fw_starts}
+use Rattle.slnf_flight.specs.PlanSetting.{fw_own, fw_case, setting_with}
 use Rattle.slnf_setting.specs.OneBoxOfPlan.{any_fw_box}
 use Rattle.slnf_setting.proofs.Begun.{IsStarted, begun}
 use Rattle.slnf_setting.proofs.StandsKeep.{stands_keep, nothing_swept}

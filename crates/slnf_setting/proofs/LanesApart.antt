@@ -11,7 +11,7 @@ use Rattle.slnf_plan.specs.declared.plan.SweepPlan.TheVariants.{No, Yes}
 use Rattle.slnf_plan.specs.Ranges.{are_distinct, has_lanes_apart}
 use Rattle.slnf_run.specs.Setting.{Actor, Era, is_on}
 use Rattle.slnf_run.specs.OneBox.{HasLanesOnce}
-use Rattle.slnf_setting.specs.Actors.{instance_actor, sweep_actors, era_of_epoch, eras_of}
+use Rattle.slnf_flight.specs.Actors.{instance_actor, sweep_actors, era_of_epoch, eras_of}
 
 -- a test that each passes is passed by the one at a place
 pub all_at : {X : Type 0} (test : X → Bool) (xs : List X) (k : ℕ) (x : X) → list_all test xs ≡ true

@@ -25,8 +25,8 @@ use Rattle.slnf_lb.specs.declared.flights.LbState.TheVariants.{Forward}
 use Rattle.slnf_lb.specs.Machine.{pin_key, pin_value}
 use Rattle.slnf_flight.specs.declared.lanes.Taken.TheVariants.{Seen}
 use Rattle.slnf_flight.specs.declared.lanes.Lane.{Lane}
-use Rattle.slnf_setting.specs.Flights.{LbFlies}
-use Rattle.slnf_setting.specs.PlanSetting.{setting_of}
+use Rattle.slnf_flight.specs.declared.flights.AnyFlight.TheVariants.{Balancer as LbFlies}
+use Rattle.slnf_flight.specs.PlanSetting.{setting_of}
 use Rattle.slnf_setting.proofs.PlanSchedules.{run_of_schedule}
 use Rattle.slnf_setting.proofs.RowParts.{lane_of, epoch_of, on_lane, entry, plan_of}
 use Rattle.slnf_setting.specs.OneBoxOfPlan.{any_lb_box, IsOneBoxOfPlan}

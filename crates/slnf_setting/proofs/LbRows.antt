@@ -21,7 +21,7 @@ use Rattle.slnf_setting.proofs.LbRow.{front, client, first, second, service}
 use Rattle.slnf_flight.specs.declared.lanes.Taken.{Taken}
 use Rattle.slnf_flight.specs.declared.lanes.Taken.TheVariants.{Seen}
 use Rattle.slnf_flight.specs.declared.lanes.Lane.{Lane}
-use Rattle.slnf_setting.specs.PlanSetting.{setting_of}
+use Rattle.slnf_flight.specs.PlanSetting.{setting_of}
 use Rattle.slnf_setting.proofs.PlanSchedules.{run_of_schedule}
 use Rattle.slnf_setting.proofs.RowParts.{lane_of, epoch_of, on_lane, with_quota, entry, plan_of}
 use Rattle.slnf_setting.specs.OneBoxOfPlan.{IsOneBoxOfPlan}

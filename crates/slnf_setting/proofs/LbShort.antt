@@ -20,7 +20,7 @@ use Rattle.slnf_lb.specs.Flight.{Flying}
 use Rattle.slnf_lb.specs.Machine.{forwarded, returned, goes_in as lb_goes_in, lb_machine}
 use Rattle.slnf_run.specs.Images.{stand_as}
 use Rattle.slnf_setting.specs.Bound.{most_at}
-use Rattle.slnf_setting.specs.Flights.{LbFlies}
+use Rattle.slnf_flight.specs.declared.flights.AnyFlight.TheVariants.{Balancer as LbFlies}
 use Rattle.slnf_setting.proofs.Shortness.{size_at, path_short, le_trans}
 
 -- how many accesses are left in a state

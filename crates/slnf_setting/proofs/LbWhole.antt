@@ -34,13 +34,13 @@ use Rattle.slnf_lb.specs.Kept.{IsFlight}
 use Rattle.slnf_lb.specs.Scene.{LbArrival, lb_box}
 use Rattle.slnf_lb.proofs.OneBox.{lb_explained}
 use Rattle.slnf_flight.specs.declared.lanes.Lane.{Lane}
-use Rattle.slnf_setting.specs.Actors.{eras_of}
-use Rattle.slnf_setting.specs.Begins.{begins_of, no_sweeps}
+use Rattle.slnf_flight.specs.Actors.{eras_of}
+use Rattle.slnf_flight.specs.Begins.{begins_of, no_sweeps}
 use Rattle.slnf_run.specs.FunctionLaws.{IsFunction}
 use Rattle.slnf_setting.proofs.Fitting.{lanes_fit, PairsFit}
-use Rattle.slnf_flight.specs.PlanSetting.{backends_at, active_in}
-use Rattle.slnf_setting.specs.LbPlan.{lb_starts}
-use Rattle.slnf_setting.specs.PlanSetting.{lb_own, lb_case, setting_with}
+use Rattle.slnf_flight.specs.LbPlan.{backends_at, active_in}
+use Rattle.slnf_flight.specs.LbPlan.{lb_starts}
+use Rattle.slnf_flight.specs.PlanSetting.{lb_own, lb_case, setting_with}
 use Rattle.slnf_setting.specs.OneBoxOfPlan.{any_lb_box}
 use Rattle.slnf_setting.proofs.Begun.{IsStarted, begun}
 use Rattle.slnf_setting.proofs.StandsKeep.{stands_keep, nothing_swept}

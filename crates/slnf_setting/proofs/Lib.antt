@@ -27,6 +27,7 @@ pub mod PlanSchedules
 pub mod PlanNat
 pub mod Sees
 pub mod Fewness
+pub mod PlanRuns
 pub mod RowParts
 pub mod LbRow
 pub mod NatRow

@@ -9,9 +9,9 @@ use Rattle.slnf_run.proofs.Whole.{places_looking}
 use Rattle.slnf_nat.specs.Flights.{NatFlight}
 use Rattle.slnf_nat.specs.Machine.{Nat}
 use Rattle.slnf_nat.specs.NatScene.{looks_back, nat_scene}
-use Rattle.slnf_setting.specs.Flights.{nat_flight}
+use Rattle.slnf_flight.specs.Flights.{nat_flight}
 use Rattle.slnf_run.specs.Cases.{case_place, case_scene}
-use Rattle.slnf_setting.specs.PlanSetting.{nat_case}
+use Rattle.slnf_flight.specs.PlanSetting.{nat_case}
 
 -- which packets have their first entry as their place, as a case
 abbrev any_looks_back : Option NatFlight → Verdict → Bool

@@ -10,13 +10,13 @@ use Rattle.slnf_run.proofs.NextAccess.{same_flight}
 use Rattle.slnf_nat.specs.Flights.{SweepPort, NatFlight, Sweep, first_of}
 use Rattle.slnf_nat.specs.Given.{IsRanged}
 use Rattle.slnf_flight.specs.declared.lanes.Lane.{Lane}
-use Rattle.slnf_setting.specs.Actors.{eras_of}
-use Rattle.slnf_setting.specs.Begins.{begins_of}
+use Rattle.slnf_flight.specs.Actors.{eras_of}
+use Rattle.slnf_flight.specs.Begins.{begins_of}
 use Rattle.slnf_plan.specs.declared.plan.FunctionPlan.TheVariants.{Nat}
 use Rattle.slnf_setting.proofs.Fitting.{lanes_fit}
 use Rattle.slnf_setting.proofs.PlanFits.{PlanFits, pool_fits}
 use Rattle.slnf_nat.specs.Pools.{IsPool, port_count, nat_of, nat_starts, pool_port, sweep_item}
-use Rattle.slnf_setting.specs.NatPlan.{nat_sweeps}
+use Rattle.slnf_flight.specs.NatPlan.{nat_sweeps}
 use Rattle.slnf_nat.proofs.PoolPairs.{port_fits}
 use Rattle.slnf_nat.proofs.PacketEnds.{starts_as}
 use Rattle.slnf_setting.proofs.FewActors.{incarnation_fits}

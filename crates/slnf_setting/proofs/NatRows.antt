@@ -23,7 +23,7 @@ use Rattle.slnf_setting.proofs.NatRow.{pool_to, five, six, server, packet_f, pac
 use Rattle.slnf_flight.specs.declared.lanes.Taken.TheVariants.{Seen}
 use Rattle.slnf_flight.specs.declared.lanes.Lane.{Lane}
 use Rattle.slnf_nat.specs.Pools.{nat_of}
-use Rattle.slnf_setting.specs.PlanSetting.{setting_of}
+use Rattle.slnf_flight.specs.PlanSetting.{setting_of}
 use Rattle.slnf_setting.proofs.PlanSchedules.{run_of_schedule}
 use Rattle.slnf_setting.proofs.RowParts.{lane_of, epoch_of, on_lane, entry, plan_of}
 use Rattle.slnf_setting.specs.OneBoxOfPlan.{any_nat_box, IsOneBoxOfPlan}

@@ -8,7 +8,7 @@ use Rattle.slnf_nat.specs.Machine.{Nat, nat_machine}
 use Rattle.slnf_nat.proofs.Ranks.{out_short, in_short, sweep_short}
 use Rattle.slnf_run.specs.Images.{stand_as}
 use Rattle.slnf_setting.specs.Bound.{most_at}
-use Rattle.slnf_setting.specs.Flights.{NatFlies}
+use Rattle.slnf_flight.specs.declared.flights.AnyFlight.TheVariants.{Nat as NatFlies}
 use Rattle.slnf_setting.proofs.Shortness.{ended_short}
 
 pub nat_short : (nat : Nat) → 0 < nat.ports → (others : Packet → ℕ) (st : Stand NatFlight) (own : List Entry) →

@@ -12,9 +12,9 @@ use Rattle.slnf_nat.specs.Flights.{SweepPort, NatFlight, Sweep}
 use Rattle.slnf_nat.specs.Leaks.{IsSweepOf}
 use Rattle.slnf_nat.specs.LeaksNothing.{IsSweepItem}
 use Rattle.slnf_flight.specs.declared.lanes.Lane.{Lane}
-use Rattle.slnf_setting.specs.Begins.{begins_of}
+use Rattle.slnf_flight.specs.Begins.{begins_of}
 use Rattle.slnf_nat.specs.Pools.{port_count, has_pair, nat_of, nat_starts, pool_port, sweep_item}
-use Rattle.slnf_setting.specs.NatPlan.{nat_sweeps}
+use Rattle.slnf_flight.specs.NatPlan.{nat_sweeps}
 use Rattle.slnf_setting.proofs.Beginning.{begins_in_sweep}
 use Rattle.slnf_nat.proofs.PacketEnds.{item_sweeps}
 

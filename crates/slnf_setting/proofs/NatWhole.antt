@@ -21,15 +21,16 @@ use Rattle.slnf_nat.proofs.Explained.{nat_explained}
 use Rattle.slnf_nat.proofs.LeaksOfRun.{nat_list_of_image}
 use Rattle.slnf_nat.proofs.NothingLeaks.{nothing_leaks}
 use Rattle.slnf_flight.specs.declared.lanes.Lane.{Lane}
-use Rattle.slnf_setting.specs.Actors.{eras_of}
-use Rattle.slnf_setting.specs.Flights.{AnyFlight, NatFlies}
+use Rattle.slnf_flight.specs.Actors.{eras_of}
+use Rattle.slnf_flight.specs.declared.flights.AnyFlight.{AnyFlight}
+use Rattle.slnf_flight.specs.declared.flights.AnyFlight.TheVariants.{Nat as NatFlies}
 use Rattle.slnf_run.specs.Cases.{case_setting}
-use Rattle.slnf_setting.specs.Begins.{begins_of}
+use Rattle.slnf_flight.specs.Begins.{begins_of}
 use Rattle.slnf_plan.specs.declared.plan.FunctionPlan.TheVariants.{Nat}
 use Rattle.slnf_setting.proofs.PlanFits.{PlanFits, plan_is_nat}
 use Rattle.slnf_nat.specs.Pools.{port_count, nat_of, nat_starts}
-use Rattle.slnf_setting.specs.NatPlan.{nat_sweeps}
-use Rattle.slnf_setting.specs.PlanSetting.{nat_own, nat_case, nat_arrival_of, setting_with}
+use Rattle.slnf_flight.specs.NatPlan.{nat_sweeps}
+use Rattle.slnf_flight.specs.PlanSetting.{nat_own, nat_case, nat_arrival_of, setting_with}
 use Rattle.slnf_setting.specs.OneBoxOfPlan.{any_nat_box}
 use Rattle.slnf_setting.proofs.Viewed.{viewed_setting, run_viewed, leaks_viewed}
 use Rattle.slnf_run.proofs.Cases.{scene_image}

@@ -19,17 +19,19 @@ use Rattle.slnf_lb.specs.Machine.{lb_begins}
 use Rattle.slnf_flight.specs.declared.lanes.Taken.{Taken}
 use Rattle.slnf_flight.specs.declared.lanes.Taken.TheVariants.{Seen, Bad}
 use Rattle.slnf_flight.specs.declared.lanes.Lane.{Lane}
-use Rattle.slnf_flight.specs.PlanSetting.{packet_at, begins_with, active_in}
-use Rattle.slnf_setting.specs.Actors.{instance_actor, sweep_actors, era_of_epoch, eras_of}
-use Rattle.slnf_setting.specs.Flights.{NatFlies, FwFlies, LbFlies}
+use Rattle.slnf_flight.specs.Lanes.{packet_at}
+use Rattle.slnf_flight.specs.Begins.{begins_with}
+use Rattle.slnf_flight.specs.LbPlan.{active_in}
+use Rattle.slnf_flight.specs.Actors.{instance_actor, sweep_actors, era_of_epoch, eras_of}
+use Rattle.slnf_flight.specs.declared.flights.AnyFlight.TheVariants.{Nat as NatFlies, Firewall as FwFlies, Balancer as LbFlies}
 use Rattle.slnf_run.specs.Cases.{start_as}
-use Rattle.slnf_setting.specs.Begins.{no_sweeps}
+use Rattle.slnf_flight.specs.Begins.{no_sweeps}
 use Rattle.slnf_nat.specs.Pools.{nat_starts, sweep_item}
-use Rattle.slnf_setting.specs.NatPlan.{nat_sweeps}
-use Rattle.slnf_setting.specs.FwPlan.{policy_with, fw_starts}
-use Rattle.slnf_setting.specs.LbPlan.{lb_starts}
-use Rattle.slnf_setting.specs.PlanSetting.{scene_of, setting_of}
-use Rattle.slnf_setting.specs.AnyFunction.{any_machine, any_starts}
+use Rattle.slnf_flight.specs.NatPlan.{nat_sweeps}
+use Rattle.slnf_flight.specs.FwPlan.{policy_with, fw_starts}
+use Rattle.slnf_flight.specs.LbPlan.{lb_starts}
+use Rattle.slnf_flight.specs.PlanSetting.{scene_of, setting_of}
+use Rattle.slnf_flight.specs.AnyFunction.{any_machine, any_starts}
 use Rattle.slnf_setting.proofs.AtActor.{era_at, own_base_is, begins_at}
 
 -- each incarnation has the plan's machine

@@ -14,15 +14,16 @@ use Rattle.slnf_fw.specs.Packets.{Policy}
 use Rattle.slnf_fw.specs.Flight.{Flying as FwFlying}
 use Rattle.slnf_fw.specs.Machine.{fw_machine}
 use Rattle.slnf_flight.specs.declared.lanes.Lane.{Lane}
-use Rattle.slnf_setting.specs.Actors.{eras_of}
-use Rattle.slnf_setting.specs.Begins.{begins_of, no_sweeps}
+use Rattle.slnf_flight.specs.Actors.{eras_of}
+use Rattle.slnf_flight.specs.Begins.{begins_of, no_sweeps}
 use Rattle.slnf_nat.specs.Pools.{nat_of, nat_starts, port_count}
-use Rattle.slnf_setting.specs.NatPlan.{nat_sweeps}
-use Rattle.slnf_setting.specs.FwPlan.{policy_with, fw_starts}
-use Rattle.slnf_setting.specs.LbPlan.{lb_starts}
-use Rattle.slnf_setting.specs.PlanSetting.{nat_own, fw_own, lb_own, nat_case, fw_case, lb_case, scene_of, setting_with, setting_of}
+use Rattle.slnf_flight.specs.NatPlan.{nat_sweeps}
+use Rattle.slnf_flight.specs.FwPlan.{policy_with, fw_starts}
+use Rattle.slnf_flight.specs.LbPlan.{lb_starts}
+use Rattle.slnf_flight.specs.PlanSetting.{nat_own, fw_own, lb_own, nat_case, fw_case, lb_case, scene_of, setting_with, setting_of}
 use Rattle.slnf_setting.specs.Bound.{most_at, others_on, most_in, ShowsFailures, IsBoundedFor, most_of, AreOf}
-use Rattle.slnf_setting.specs.Flights.{AnyFlight, FwFlies, NatFlies, LbFlies}
+use Rattle.slnf_flight.specs.declared.flights.AnyFlight.{AnyFlight}
+use Rattle.slnf_flight.specs.declared.flights.AnyFlight.TheVariants.{Firewall as FwFlies, Nat as NatFlies, Balancer as LbFlies}
 use Rattle.slnf_run.proofs.WholeCases.{own_paths}
 use Rattle.slnf_setting.proofs.FwWhole.{fw_flights}
 use Rattle.slnf_setting.proofs.Shortness.{total_by, ended_short, le_trans}

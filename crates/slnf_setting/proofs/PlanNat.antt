@@ -14,13 +14,15 @@ use Rattle.slnf_nat.specs.declared.flights.OutState.TheVariants.{Release}
 use Rattle.slnf_nat.specs.Flights.{Out}
 use Rattle.slnf_nat.specs.Given.{IsNatList}
 use Rattle.slnf_flight.specs.declared.lanes.Lane.{Lane}
-use Rattle.slnf_setting.specs.Actors.{eras_of}
-use Rattle.slnf_setting.specs.Flights.{AnyFlight, NatFlies, Arrival}
+use Rattle.slnf_flight.specs.Actors.{eras_of}
+use Rattle.slnf_flight.specs.declared.flights.AnyFlight.{AnyFlight}
+use Rattle.slnf_flight.specs.declared.flights.AnyFlight.TheVariants.{Nat as NatFlies}
+use Rattle.slnf_flight.specs.Flights.{Arrival}
 use Rattle.slnf_run.specs.Cases.{case_scene, case_setting}
 use Rattle.slnf_setting.specs.Fits.{has_types}
 use Rattle.slnf_nat.specs.Pools.{nat_of}
 use Rattle.slnf_setting.specs.NatRuns.{NatRunsWell}
-use Rattle.slnf_setting.specs.PlanSetting.{nat_own, nat_case, scene_of, sweep_items_of, setting_with, setting_of}
+use Rattle.slnf_flight.specs.PlanSetting.{nat_own, nat_case, scene_of, sweep_items_of, setting_with, setting_of}
 use Rattle.slnf_run.proofs.CaseStands.{IsOwnDecision, case_flies, case_decision}
 use Rattle.slnf_setting.proofs.NatWhole.{begins, own, nat_list}
 use Rattle.slnf_setting.proofs.PlanFits.{PlanFits, plan_fits, plan_is_nat}

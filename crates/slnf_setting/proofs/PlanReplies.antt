@@ -32,11 +32,11 @@ use Rattle.slnf_fw.specs.Box.{Conns, IsSameConns}
 use Rattle.slnf_fw.proofs.Keys.{tracked_read}
 use Rattle.slnf_lb.specs.Box.{Pins, backend_in, IsSameMap}
 use Rattle.slnf_flight.specs.declared.lanes.Lane.{Lane}
-use Rattle.slnf_setting.specs.Actors.{eras_of}
+use Rattle.slnf_flight.specs.Actors.{eras_of}
 use Rattle.slnf_setting.specs.Fits.{has_types}
 use Rattle.slnf_nat.specs.Pools.{nat_of}
-use Rattle.slnf_setting.specs.FwPlan.{policy_with}
-use Rattle.slnf_setting.specs.PlanSetting.{scene_of, sweep_items_of, setting_with, setting_of}
+use Rattle.slnf_flight.specs.FwPlan.{policy_with}
+use Rattle.slnf_flight.specs.PlanSetting.{scene_of, sweep_items_of, setting_with, setting_of}
 use Rattle.slnf_setting.specs.OneBoxOfPlan.{any_fw_box, any_lb_box}
 use Rattle.slnf_setting.specs.Replies.{NoneIll}
 use Rattle.slnf_setting.proofs.Fitting.{pairs_fit}

@@ -9,7 +9,7 @@ use Rattle.slnf_run.proofs.Ways.{usual_lawful}
 use Rattle.slnf_run.proofs.Scheduling.{scheduled_is_run}
 use Rattle.slnf_run.proofs.Clocked.{scheduled_clocked}
 use Rattle.slnf_flight.specs.declared.lanes.Lane.{Lane}
-use Rattle.slnf_setting.specs.PlanSetting.{setting_of}
+use Rattle.slnf_flight.specs.PlanSetting.{setting_of}
 
 -- The journal is a run of the plan's setting,
 pub run_of_schedule : (plan : Plan) (lanes : List Lane) (j : List Entry) →

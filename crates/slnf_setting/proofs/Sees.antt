@@ -27,15 +27,17 @@ use Rattle.slnf_lb.specs.Machine.{is_forward, is_return}
 use Rattle.slnf_flight.specs.declared.lanes.Taken.{Taken}
 use Rattle.slnf_flight.specs.declared.lanes.Taken.TheVariants.{Seen, Bad}
 use Rattle.slnf_flight.specs.declared.lanes.Lane.{Lane}
-use Rattle.slnf_flight.specs.PlanSetting.{packet_at, begins_with}
-use Rattle.slnf_setting.specs.Actors.{eras_of}
-use Rattle.slnf_setting.specs.Begins.{begins_of, no_sweeps}
-use Rattle.slnf_setting.specs.Flights.{AnyFlight, NatFlies, FwFlies, LbFlies}
+use Rattle.slnf_flight.specs.Lanes.{packet_at}
+use Rattle.slnf_flight.specs.Begins.{begins_with}
+use Rattle.slnf_flight.specs.Actors.{eras_of}
+use Rattle.slnf_flight.specs.Begins.{begins_of, no_sweeps}
+use Rattle.slnf_flight.specs.declared.flights.AnyFlight.{AnyFlight}
+use Rattle.slnf_flight.specs.declared.flights.AnyFlight.TheVariants.{Nat as NatFlies, Firewall as FwFlies, Balancer as LbFlies}
 use Rattle.slnf_nat.specs.Pools.{is_outbound, is_inbound, nat_starts}
-use Rattle.slnf_setting.specs.NatPlan.{nat_sweeps}
-use Rattle.slnf_setting.specs.FwPlan.{policy_with, fw_starts}
-use Rattle.slnf_setting.specs.LbPlan.{lb_starts}
-use Rattle.slnf_setting.specs.PlanSetting.{scene_of, setting_of}
+use Rattle.slnf_flight.specs.NatPlan.{nat_sweeps}
+use Rattle.slnf_flight.specs.FwPlan.{policy_with, fw_starts}
+use Rattle.slnf_flight.specs.LbPlan.{lb_starts}
+use Rattle.slnf_flight.specs.PlanSetting.{scene_of, setting_of}
 use Rattle.slnf_setting.proofs.Beginning.{lane_is, begins_by}
 use Rattle.slnf_setting.specs.Sees.{SeesLanes}
 

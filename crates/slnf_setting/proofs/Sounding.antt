@@ -14,9 +14,10 @@ use Rattle.slnf_run.specs.OneBox.{HasLanesOnce, EndsWell, IsSound}
 use Rattle.slnf_flight.specs.declared.lanes.Taken.{Taken}
 use Rattle.slnf_flight.specs.declared.lanes.Taken.TheVariants.{Seen, Bad}
 use Rattle.slnf_flight.specs.declared.lanes.Lane.{Lane}
-use Rattle.slnf_setting.specs.Lanes.{lane_sizes}
-use Rattle.slnf_flight.specs.PlanSetting.{packet_at, begins_with}
-use Rattle.slnf_setting.specs.Begins.{lane_begins, actor_begins, begins_of}
+use Rattle.slnf_flight.specs.Lanes.{lane_sizes}
+use Rattle.slnf_flight.specs.Lanes.{packet_at}
+use Rattle.slnf_flight.specs.Begins.{begins_with}
+use Rattle.slnf_flight.specs.Begins.{lane_begins, actor_begins, begins_of}
 use Rattle.slnf_run.specs.FunctionLaws.{IsFunction}
 use Rattle.slnf_setting.proofs.Beginning.{begins_on_lane, begins_in_sweep}
 

@@ -4,7 +4,7 @@ use Rattle.slnf_access.specs.declared.requests.Entry.{Entry}
 use Rattle.slnf_access.specs.declared.requests.Reply.{Reply}
 use Rattle.slnf_access.specs.Machines.{Machine, Stand, Flies, Ends, stand_after, decided_at}
 use Rattle.slnf_run.proofs.NextAccess.{stand_after-ended}
-use Rattle.slnf_setting.specs.Begins.{no_sweeps}
+use Rattle.slnf_flight.specs.Begins.{no_sweeps}
 
 pub stands_keep : {F : Type 0} (m : Machine F) (P : Stand F → Type 0)
     → ((flight : F) (reply : Reply) → P (Flies flight) → P (m.goes flight reply)) → (st : Stand F) (own : List Entry)

@@ -17,7 +17,7 @@ use Rattle.slnf_run.specs.Parts.{Post}
 use Rattle.slnf_run.specs.Scheduled.{usual_way, IsScheduled}
 use Rattle.slnf_lb.specs.Machine.{pin_key, pin_value}
 use Rattle.slnf_flight.specs.declared.lanes.Lane.{Lane}
-use Rattle.slnf_setting.specs.PlanSetting.{setting_of}
+use Rattle.slnf_flight.specs.PlanSetting.{setting_of}
 use Rattle.slnf_setting.proofs.PlanSchedules.{run_of_schedule}
 use Rattle.slnf_setting.proofs.RowParts.{lane_of, epoch_of, on_lane, with_stop, entry, plan_of}
 use Rattle.slnf_setting.proofs.LbRow.{client, first, second, service}

@@ -1,12 +1,3 @@
-pub mod Actors
-pub mod Lanes
-pub mod Begins
-pub mod Flights
-pub mod NatPlan
-pub mod FwPlan
-pub mod LbPlan
-pub mod PlanSetting
-pub mod AnyFunction
 pub mod Fits
 pub mod OneBoxOfPlan
 pub mod OwnFlights
@@ -15,3 +6,4 @@ pub mod NatRuns
 pub mod Replies
 pub mod Bound
 pub mod Sees
+pub mod Runs

@@ -13,7 +13,9 @@ use Rattle.slnf_nat.specs.declared.flights.OutState.TheVariants.{Look, Release}
 use Rattle.slnf_nat.specs.Flights.{Out}
 use Rattle.slnf_nat.specs.Machine.{Nat}
 use Rattle.slnf_nat.specs.Starved.{IsStarved}
-use Rattle.slnf_setting.specs.Flights.{AnyFlight, NatFlies, Arrival}
+use Rattle.slnf_flight.specs.declared.flights.AnyFlight.{AnyFlight}
+use Rattle.slnf_flight.specs.declared.flights.AnyFlight.TheVariants.{Nat as NatFlies}
+use Rattle.slnf_flight.specs.Flights.{Arrival}
 
 pub record NatRunsWell (nat : Nat) (s : Scene AnyFlight Arrival) (es : List Entry) : Type 0 where
   -- A packet is decided to have no port only where it found each candidate taken, and then no flow.

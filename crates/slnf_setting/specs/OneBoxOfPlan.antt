@@ -15,11 +15,12 @@ use Rattle.slnf_base.specs.declared.plans.Service.{Service}
 use Rattle.slnf_lb.specs.Box.{Pins, IsSameMap}
 use Rattle.slnf_lb.specs.Scene.{lb_box}
 use Rattle.slnf_flight.specs.declared.lanes.Lane.{Lane}
-use Rattle.slnf_setting.specs.Flights.{AnyFlight, Arrival}
+use Rattle.slnf_flight.specs.declared.flights.AnyFlight.{AnyFlight}
+use Rattle.slnf_flight.specs.Flights.{Arrival}
 use Rattle.slnf_run.specs.Cases.{box_through}
 use Rattle.slnf_nat.specs.Pools.{nat_of}
-use Rattle.slnf_setting.specs.FwPlan.{policy_with}
-use Rattle.slnf_setting.specs.PlanSetting.{nat_arrival_of, lb_arrival_of, setting_of}
+use Rattle.slnf_flight.specs.FwPlan.{policy_with}
+use Rattle.slnf_flight.specs.PlanSetting.{nat_arrival_of, lb_arrival_of, setting_of}
 
 -- the NAT's box, which looks at the packet and its choice
 abbrev pub any_nat_box : Nat → Box Arrival (List Flow)

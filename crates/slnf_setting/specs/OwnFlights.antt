@@ -2,7 +2,8 @@
 use Rattle.slnf_access.specs.Machines.{Stand, Flies, Ends}
 use Rattle.slnf_plan.specs.declared.plan.FunctionPlan.{FunctionPlan}
 use Rattle.slnf_plan.specs.declared.plan.FunctionPlan.TheVariants.{Nat, Firewall, Balancer}
-use Rattle.slnf_setting.specs.Flights.{AnyFlight, NatFlies, FwFlies, LbFlies}
+use Rattle.slnf_flight.specs.declared.flights.AnyFlight.{AnyFlight}
+use Rattle.slnf_flight.specs.declared.flights.AnyFlight.TheVariants.{Nat as NatFlies, Firewall as FwFlies, Balancer as LbFlies}
 
 -- the flight is one of the function's
 abbrev pub IsFlightOf : FunctionPlan → AnyFlight → Type 0

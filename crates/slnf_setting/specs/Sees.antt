@@ -6,8 +6,9 @@ use Rattle.slnf_run.specs.Scene.{Scene}
 use Rattle.slnf_run.specs.Setting.{Actor, Era, is_on, actors_of}
 use Rattle.slnf_flight.specs.declared.lanes.Taken.TheVariants.{Seen}
 use Rattle.slnf_flight.specs.declared.lanes.Lane.{Lane}
-use Rattle.slnf_flight.specs.PlanSetting.{packet_at}
-use Rattle.slnf_setting.specs.Flights.{AnyFlight, Arrival}
+use Rattle.slnf_flight.specs.Lanes.{packet_at}
+use Rattle.slnf_flight.specs.declared.flights.AnyFlight.{AnyFlight}
+use Rattle.slnf_flight.specs.Flights.{Arrival}
 
 -- The packet that a box sees of an item of an instance is that of the instance's lane with the item's number.
 abbrev pub SeesLanes : Scene AnyFlight Arrival → List Era → List Lane → Type 0

@@ -16,15 +16,16 @@ ghost use Rattle.slnf_run.specs.Run.{IsRun};
 ghost use Rattle.slnf_run.specs.OneBox.{IsSound};
 ghost use Rattle.slnf_nat.specs.LeaksNothing.{LeaksNothing};
 ghost use Rattle.slnf_flight.specs.declared.lanes.Lane.{Lane};
-ghost use Rattle.slnf_flight.specs.PlanSetting.{packet_at, begins_with};
-ghost use Rattle.slnf_setting.specs.Lanes.{lane_sizes};
-ghost use Rattle.slnf_setting.specs.Actors.{eras_of};
-ghost use Rattle.slnf_setting.specs.AnyFunction.{any_machine, any_starts};
+ghost use Rattle.slnf_flight.specs.Lanes.{packet_at};
+ghost use Rattle.slnf_flight.specs.Begins.{begins_with};
+ghost use Rattle.slnf_flight.specs.Lanes.{lane_sizes, packet_count};
+ghost use Rattle.slnf_flight.specs.Actors.{eras_of};
+ghost use Rattle.slnf_flight.specs.AnyFunction.{any_machine, any_starts};
 ghost use Rattle.slnf_setting.specs.Bound.{IsBoundedFor, AreItemsOf};
-ghost use Rattle.slnf_setting.specs.Flights.{NatFlies};
+ghost use Rattle.slnf_flight.specs.declared.flights.AnyFlight.TheVariants.{Nat as NatFlies};
 ghost use Rattle.slnf_setting.specs.Fits.{has_types};
 ghost use Rattle.slnf_nat.specs.Pools.{nat_of, sweep_item};
-ghost use Rattle.slnf_setting.specs.PlanSetting.{setting_of};
+ghost use Rattle.slnf_flight.specs.PlanSetting.{setting_of};
 ghost use Rattle.slnf_setting.specs.OneBoxOfPlan.{IsOneBoxOfPlan};
 ghost use Rattle.slnf_setting.specs.OwnFlights.{IsStandOf};
 ghost use Rattle.slnf_setting.specs.Pairs.{KeepsPairs};
@@ -34,6 +35,11 @@ ghost use Rattle.slnf_setting.specs.Sees.{SeesLanes};
 ghost use Rattle.slnf_run.specs.Scheduled.{usual_way, IsScheduled};
 ghost use Rattle.slnf_run.specs.Stamps.{HasClockStamps};
 ghost use Rattle.slnf_run.specs.Items.{Item};
+ghost use Rattle.slnf_run.specs.SoFar.{IsSoFar, HoldsSoFar};
+ghost use Rattle.slnf_run.specs.Setting.{era_of};
+ghost use Rattle.slnf_run.specs.Made.{clock, of_shard, last_stamp};
+ghost use Rattle.std.specs.List.{AllByRecursion};
+ghost use Rattle.slnf_setting.specs.Runs.{IsRunOfPlan};
 
 /// The setting of each plan is sound, and its items fly as its function's alone. One ordinary box explains each run of
 /// it, with all that is written. No two live flows share an outside pair, and no flow's outside pair and no client's
@@ -95,5 +101,45 @@ pub fn plan_schedules_so()
         → IsRun (setting_of plan lanes) j }
     ensures stamps { (plan : Plan) (lanes : List Lane) (j : List Entry)
         → IsScheduled (setting_of plan lanes) (usual_way (setting_of plan lanes).eras) j
+        → HasClockStamps (setting_of plan lanes) j }
+{}
+
+/// The accesses of a plan's schedule so far, also in the middle of an epoch: each reply is the map's, and each item's
+/// entries are a path. Within the limits there are fewer than 2^41, of the packets of the lanes and of the sweeps'
+/// items, and all stamps and clocks are below that.
+pub fn plan_passes_few()
+    ensures so_far { (plan : Plan) (lanes : List Lane) (number base : ℕ) (places : ℕ → ℕ) (m : List Entry)
+        → IsSoFar (setting_of plan lanes) (usual_way (eras_of plan.epochs)) number base places m
+        → HoldsSoFar (setting_of plan lanes) m }
+    ensures items { (plan : Plan) (lanes : List Lane) (number base : ℕ) (places : ℕ → ℕ) (m : List Entry)
+        → IsSoFar (setting_of plan lanes) (usual_way (eras_of plan.epochs)) number base places m
+        → (packets sweeps : List Item) × AreItemsOf (setting_of plan lanes) packets sweeps m }
+    ensures fewer { (plan : Plan) (lanes : List Lane) (number base : ℕ) (places : ℕ → ℕ) (m : List Entry)
+        → IsTrue (has_types plan.function) → packet_count lanes ≤ 1048576
+        → IsSoFar (setting_of plan lanes) (usual_way (eras_of plan.epochs)) number base places m
+        → length m < 2 ^ 41 }
+    ensures stamps { (plan : Plan) (lanes : List Lane) (number base : ℕ) (places : ℕ → ℕ) (m : List Entry)
+        → IsTrue (has_types plan.function) → packet_count lanes ≤ 1048576
+        → IsSoFar (setting_of plan lanes) (usual_way (eras_of plan.epochs)) number base places m
+        → AllByRecursion (λ e. e.stamp < 2 ^ 41) m }
+    ensures clocks { (plan : Plan) (lanes : List Lane) (number base : ℕ) (places : ℕ → ℕ) (m : List Entry)
+        → IsTrue (has_types plan.function) → packet_count lanes ≤ 1048576
+        → IsSoFar (setting_of plan lanes) (usual_way (eras_of plan.epochs)) number base places m
+        → (i : ℕ) → clock (era_of (eras_of plan.epochs)) m i < 2 ^ 41 }
+    ensures shards { (plan : Plan) (lanes : List Lane) (number base : ℕ) (places : ℕ → ℕ) (m : List Entry)
+        → IsTrue (has_types plan.function) → packet_count lanes ≤ 1048576
+        → IsSoFar (setting_of plan lanes) (usual_way (eras_of plan.epochs)) number base places m
+        → (shard : ℕ) → last_stamp (of_shard shard m) < 2 ^ 41 }
+{}
+
+/// The journal that a plan's schedule makes of few packets is a run with all that the laws of plans tell of runs, and
+/// each of its stamps is one more than the greater of its shard's last one and its actor's clock.
+pub fn plan_runs_so()
+    ensures runs { (plan : Plan) (lanes : List Lane) (j : List Entry)
+        → IsTrue (has_types plan.function) → packet_count lanes ≤ 1048576
+        → IsScheduled (setting_of plan lanes) (usual_way (eras_of plan.epochs)) j
+        → IsRunOfPlan plan lanes j }
+    ensures stamps { (plan : Plan) (lanes : List Lane) (j : List Entry)
+        → IsScheduled (setting_of plan lanes) (usual_way (eras_of plan.epochs)) j
         → HasClockStamps (setting_of plan lanes) j }
 {}
