@@ -1,0 +1,12 @@
+mod Tables
+mod Partings
+mod Numbers
+mod Following
+mod BatchEnds
+mod TakenCounts
+mod PlanStands
+mod PlanJobs
+mod GivenRows
+mod GivenNext
+mod Whole
+mod EndNext

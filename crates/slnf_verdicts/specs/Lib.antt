@@ -1,0 +1,4 @@
+pub mod Tables
+pub mod Standings
+pub mod Batches
+pub mod Given
