@@ -1,1 +1,3 @@
-pub mod Worked
+pub mod BalancerRuns
+pub mod NatRuns
+pub mod FirewallRuns
