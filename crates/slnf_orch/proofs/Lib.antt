@@ -1,11 +1,23 @@
-pub mod Steps
-pub mod Turning
-pub mod Posted
-pub mod Rounds
-pub mod Finishing
-pub mod Leaving
-pub mod AtWork
-pub mod UnderWay
-pub mod PlanRuns
-pub mod Closing
-pub mod Handing
+mod Apart
+mod Closing
+mod EpochPasses
+mod Filling
+mod Fitting
+mod Functions
+mod Giving
+mod Handing
+mod Hired
+mod LaneCounts
+mod Leaving
+mod Making
+mod Places
+mod Plain
+mod PlanEpochs
+mod Pushes
+mod Rounds
+mod SettingOut
+mod Staffing
+mod Standing
+mod Told
+mod Turning
+mod UnderWay

@@ -1,155 +1,137 @@
--- A worker's turn that makes an access.
-use Rattle.std.proofs.Common.{◌≡◌, inl, inr, ℕ, ◌+◌, ◌-◌, ◌<◌, true, false, Option, Some, None, List, [], ◌∷◌, ◌++◌, length, slice_index, refl, sym, ap, ◌∙◌, subst, arith, eq-eqb}
-use Rattle.std.specs.Prelude.{Vec}
-use Rattle.std.specs.declared.alloc.Global.{Global}
-use Rattle.std.proofs.lemmas.List.{length_push}
-use Rattle.slnf_base.specs.declared.packets.Packet.{Packet}
-use Rattle.slnf_base.specs.declared.packets.Verdict.{Verdict}
-use Rattle.slnf_base.specs.declared.packets.Verdict.TheVariants.{Lost}
+-- One turn of one actor: its access is the schedule's, and a stamp is left for it.
+use Rattle.std.proofs.Common.{◌≡◌, ℕ, ◌+◌, ◌-◌, ◌%◌, ◌≤◌, ◌<◌, ◌^◌, true, false, Option, Some, None, List, [], ◌∷◌, ◌++◌, length, refl, sym, ap, ◌∙◌, subst, arith, le_of_eq, length-append, length-set, get_or}
 use Rattle.slnf_access.specs.declared.requests.Entry.{Entry}
-use Rattle.slnf_access.specs.declared.requests.Request.{Request}
+use Rattle.slnf_access.specs.declared.requests.Ask.{Ask}
 use Rattle.slnf_access.specs.declared.requests.Reply.{Reply}
-use Rattle.slnf_access.specs.declared.functions.Start.{Start}
-use Rattle.slnf_access.specs.declared.functions.Step.{Step}
-use Rattle.slnf_access.specs.declared.functions.Step.TheVariants.{Go as StepGo, Over as StepOver}
-use Rattle.slnf_access.specs.Store.{Stored, next_entry}
-use Rattle.slnf_access.specs.Machines.{stand_of_step, stand_step, stand_after}
-use Rattle.slnf_flight.specs.declared.lanes.Taken.{Taken}
-use Rattle.slnf_flight.specs.Setting.{Setting}
-use Rattle.slnf_flight.specs.Parts.{part_of, of_item, stand_of, is_stopped, offers_of, taken_of, Post}
-use Rattle.slnf_flight.specs.Scheduled.{wanted, with_access, entry_after}
-use Rattle.slnf_flight.specs.Verdicts.{verdict_at, verdict_by, counted}
-use Rattle.slnf_flight.proofs.Laws.{count_of, stand_of-own, counted_front, taken_by_stop}
-use Rattle.slnf_orch.specs.declared.workers.Worker.{Worker}
-use Rattle.slnf_orch.specs.Work.{EachFrom, IsRunBy, packet_of, actor_of, is_last, one_less, Works, WasStopped, IsSettled, IsWithin, IsTurn}
-use Rattle.slnf_orch.proofs.Steps.{each_from-push, each_from-same, with_flight, with_verdict, with_verdicts, entry_is, part_more, stop_reached, is_stop, part_longer, end_is, wants_flight, wants_nothing, Accessed, works_go, works_over, none_flies}
+use Rattle.slnf_access.specs.Map.{key_of}
+use Rattle.slnf_run.specs.Setting.{Actor}
+use Rattle.slnf_run.specs.Jobs.{Job}
+use Rattle.slnf_run.specs.Parts.{part_of}
+use Rattle.slnf_run.specs.Scheduled.{entry_after, with_access}
+use Rattle.slnf_run.specs.Made.{IsLaid, clock}
+use Rattle.slnf_run.proofs.Pairing.{each-push, each-weaker}
+use Rattle.slnf_run.proofs.Parting.{part_of-append, part_of-own}
+use Rattle.slnf_run.proofs.Ways.{usual_lawful}
+use Rattle.slnf_shards.specs.Shards.{entry_on, with_entry_on, latest_on}
+use Rattle.slnf_shards.proofs.Laws.{stay_parts, makes_as_scheduled, clock-own}
+use Rattle.slnf_instance.specs.Items.{Workload}
+use Rattle.slnf_instance.specs.Instances.{Acting, StandsBy, IsAnswer, ask_by}
+use Rattle.slnf_orch.specs.Actors.{Stage, epoch_in, way_in, wanted_at, after_turn, job_at, HasHistories, IsAt, IsTurn}
 
--- The access that a worker's turn makes: the entry, and the list with it.
-pub record Turning {F : Type 0} (s : Setting F) (es fs : List Entry) (packets : List Taken) (begins : ℕ → ℕ → Packet → Start F) (asks : F → Request) (goes : F → Reply → Step F) (w : Worker F) (flight : F) (e : Entry) (reply : Reply) : Type 0 where
-  pub by : IsRunBy s w.incarnation w.instance.lane packets begins asks goes
-  pub within : IsWithin packets w
-  pub works : Works s es w
-  pub some : w.flight ≡ Some flight
-  pub mine : e.incarnation ≡ w.incarnation
-  pub item : e.item ≡ packet_of w
-  pub made : e ≡ entry_after s es w.incarnation (record { item = packet_of w; request = asks flight })
-  pub whole : fs ≡ es ++ e ∷ []
-  pub replied : reply ≡ e.reply
+-- the part of an incarnation with one entry more of its own
+part_more : (incarnation : ℕ) (m : List Entry) (e : Entry) → e.incarnation ≡ incarnation →
+    part_of incarnation (m ++ e ∷ []) ≡ part_of incarnation m ++ e ∷ []
+part_more incarnation m e own =
+    part_of-append incarnation m (e ∷ [])
+    ∙ ap (λ part. part_of incarnation m ++ part) (part_of-own incarnation e [] own)
 
--- a worker with a flight works
-works_of : {F : Type 0} (s : Setting F) (es : List Entry) (w : Worker F) (flight : F) → IsSettled s es w → w.flight ≡ Some flight → Works s es w
-works_of s es w flight (inl h) some = none_flies w.flight flight h.idle some
-works_of s es w flight (inr h) some = h.0
+module _ {F : Type 0} (stage : Stage F) (m : List Entry) (number now : ℕ) (histories : List (List Entry)) (ask : Ask)
+  where
+    -- the actor's incarnation, and the schedule's entry
+    abbrev own : ℕ
+    own = stage.base + number
 
-pub turning : {F : Type 0} (s : Setting F) (store after : Stored) (packets : List Taken) (begins : ℕ → ℕ → Packet → Start F) (asks : F → Request) (goes : F → Reply → Step F) (w : Worker F) (flight : F) (item : ℕ) (request : Request) (reply : Reply) → IsRunBy s w.incarnation w.instance.lane packets begins asks goes → IsWithin packets w → s.shards ≡ store.shards → IsSettled s store.entries w → w.flight ≡ Some flight → item ≡ packet_of w → request ≡ asks flight → after ≡ record { entries = store.entries ++ next_entry store w.incarnation item request ∷ []; shards = store.shards } → reply ≡ (next_entry store w.incarnation item request).reply → Turning s store.entries after.entries packets begins asks goes w flight (next_entry store w.incarnation item request) reply
-turning s store after packets begins asks goes w flight item request reply by within shards settled some at asked whole replied = record {
-  by = by;
-  within = within;
-  works = works_of s store.entries w flight settled some;
-  some = some;
-  mine = refl;
-  item = at;
-  made = entry_is s store w.incarnation item request shards
-      ∙ (ap (λ i. entry_after s store.entries w.incarnation (record { item = i; request = request })) at
-      ∙ ap (λ r. entry_after s store.entries w.incarnation (record { item = packet_of w; request = r })) asked);
-  whole = ap (λ (t : Stored). t.entries) whole;
-  replied = replied;
-}
+    abbrev next : Entry
+    next = entry_after stage.setting (way_in stage) m own ask
 
--- what the turn makes is what the worker's actor wants
-turned_is : {F : Type 0} (s : Setting F) (es fs : List Entry) (packets : List Taken) (begins : ℕ → ℕ → Packet → Start F) (asks : F → Request) (goes : F → Reply → Step F) (w : Worker F) (flight : F) (e : Entry) (reply : Reply) → Turning s es fs packets begins asks goes w flight e reply → fs ≡ with_access s es w.incarnation (wanted s es w.incarnation w.at (actor_of w))
-turned_is s es fs packets begins asks goes w flight e reply t =
-    t.whole
-    ∙ (ap (λ f. es ++ f ∷ []) t.made
-    ∙ (ap (λ r. es ++ entry_after s es w.incarnation (record { item = packet_of w; request = r }) ∷ []) (sym (t.by.asked flight))
-    ∙ ap (with_access s es w.incarnation) (sym (wants_flight s es packets w flight t.by.one t.by.lanes t.within t.works t.some))))
+    -- the entry that the shards make by the actor's clock is that one
+    pub entry_is : HasHistories stage m histories → now ≡ clock (epoch_in stage) m own →
+        entry_on histories now own ask.item ask.request ≡ next
+    entry_is h time =
+        ap (λ n. entry_on histories n own ask.item ask.request) time
+        ∙ makes_as_scheduled stage.setting m histories own ask h.parts h.count
 
-accessed : {F : Type 0} (s : Setting F) (es fs : List Entry) (packets : List Taken) (begins : ℕ → ℕ → Packet → Start F) (asks : F → Request) (goes : F → Reply → Step F) (w : Worker F) (flight : F) (e : Entry) (reply : Reply) (step : Step F) → Turning s es fs packets begins asks goes w flight e reply → step ≡ goes flight reply → Accessed s es w e (stand_of_step step)
-accessed s es fs packets begins asks goes w flight e reply step t is = record {
-  mine = t.mine;
-  item = t.item;
-  stands = stand_of-own s w.incarnation (packet_of w) es e t.mine t.item
-      ∙ (ap (λ stand. stand_step (s.machine w.incarnation) stand e) (t.works.flies flight t.some)
-      ∙ (t.by.gone flight e.reply ∙ (ap (λ r. stand_of_step (goes flight r)) (sym t.replied) ∙ ap stand_of_step (sym is))));
-}
+    stamp_within : HasHistories stage m histories → next.stamp ≤ length m + 1
+    stamp_within h = (usual_lawful stage.setting.eras).within m own next.shard h.within
 
--- an access after which the packet flies on
-pub turn_go : {F : Type 0} (s : Setting F) (es fs : List Entry) (packets : List Taken) (begins : ℕ → ℕ → Packet → Start F) (asks : F → Request) (goes : F → Reply → Step F) (w : Worker F) (flight next : F) (e : Entry) (reply : Reply) (left : Option ℕ) → Turning s es fs packets begins asks goes w flight e reply → is_last w.left ≡ false → left ≡ one_less w.left → StepGo next ≡ goes flight reply → IsTurn s es fs w (with_flight w left (Some next)) true
-turn_go s es fs packets begins asks goes w flight next e reply left t last less is =
-    let works : Works s (es ++ e ∷ []) (with_flight w (one_less w.left) (Some next)) =
-    works_go s es w e next t.works last (accessed s es fs packets begins asks goes w flight e reply (StepGo next) t is) in
-    record {
-      turned = turned_is s es fs packets begins asks goes w flight e reply t;
-      idle = λ not. absurd (cc);
-      settled = inr (
-        subst (λ l. Works s l (with_flight w left (Some next))) (sym t.whole) (subst (λ o. Works s (es ++ e ∷ []) (with_flight w o (Some next))) (sym less) works),
-        λ none. absurd (cc),
-      );
-    }
+    -- after few accesses a stamp is left for it
+    pub room_left : HasHistories stage m histories → now ≡ clock (epoch_in stage) m own → length m < 2 ^ 41 →
+        latest_on histories now ask.request < 2 ^ 62 - 1
+    room_left h time few =
+        let stamp : latest_on histories now ask.request + 1 ≡ next.stamp =
+        ap (λ (e : Entry). e.stamp) (entry_is h time) in
+        let within : next.stamp ≤ length m + 1 = stamp_within h in
+        omega arith
 
--- where the worker stands after an access with which its packet ends
-pub over_works : {F : Type 0} (s : Setting F) (es fs : List Entry) (packets : List Taken) (begins : ℕ → ℕ → Packet → Start F) (asks : F → Request) (goes : F → Reply → Step F) (w : Worker F) (flight : F) (vs : Vec Verdict Global) (verdict : Verdict) (e : Entry) (reply : Reply) (left : Option ℕ) (gone_flight : Option F) → Turning s es fs packets begins asks goes w flight e reply → is_last w.left ≡ false → left ≡ one_less w.left → gone_flight ≡ None → StepOver verdict ≡ goes flight reply → vs.items ≡ w.verdicts.items ++ verdict ∷ [] → Works s fs (with_flight (with_verdicts w vs) left gone_flight)
-over_works s es fs packets begins asks goes w flight vs verdict e reply left gone_flight t last less idle is more =
-    let works : Works s (es ++ e ∷ []) (with_verdict w (one_less w.left) vs) =
-    works_over s es w vs e verdict t.works last (accessed s es fs packets begins asks goes w flight e reply (StepOver verdict) t is) more in
-    subst (λ o. Works s fs (with_flight (with_verdicts w vs) left o)) (sym idle)
-    (subst (λ l. Works s l (with_verdict w left vs)) (sym t.whole) (subst (λ o. Works s (es ++ e ∷ []) (with_verdict w o vs)) (sym less) works))
+    -- the histories with it are those of the list with it
+    pub histories_more : HasHistories stage m histories → epoch_in stage own ≡ stage.number →
+        HasHistories stage (m ++ next ∷ []) (with_entry_on histories next)
+    histories_more h here =
+        let laid : IsLaid (epoch_in stage) (length histories) m next =
+        record {
+          above = (usual_lawful stage.setting.eras).above m own next.shard h.within;
+          shard = ap (λ n. key_of ask.request % n) (sym h.count);
+          reply = refl;
+          epochs = each-weaker (λ f. epoch_in stage f.incarnation ≤ stage.number)
+              (λ f. epoch_in stage f.incarnation ≤ epoch_in stage own)
+              (λ f l. subst (λ n. epoch_in stage f.incarnation ≤ n) (sym here) l) m h.latest;
+        } in
+        let size : length (m ++ next ∷ []) ≡ length m + 1 = length-append m (next ∷ []) in
+        let within : next.stamp ≤ length m + 1 = stamp_within h in
+        record {
+          count = length-set histories next.shard (get_or histories next.shard [] ++ next ∷ []) ∙ h.count;
+          parts = stay_parts (epoch_in stage) m histories next h.parts laid;
+          within = each-push (λ e. e.stamp ≤ length (m ++ next ∷ [])) m next
+              (each-weaker (λ e. e.stamp ≤ length m) (λ e. e.stamp ≤ length (m ++ next ∷ []))
+              (λ e l. let low : e.stamp ≤ length m = l in omega arith) m h.within) (omega arith);
+          latest = each-push (λ f. epoch_in stage f.incarnation ≤ stage.number) m next h.latest (le_of_eq here);
+        }
 
-pub turn_over : {F : Type 0} (s : Setting F) (es fs : List Entry) (packets : List Taken) (begins : ℕ → ℕ → Packet → Start F) (asks : F → Request) (goes : F → Reply → Step F) (w next : Worker F) (flight : F) (e : Entry) (reply : Reply) → Turning s es fs packets begins asks goes w flight e reply → IsSettled s fs next → IsTurn s es fs w next true
-turn_over s es fs packets begins asks goes w next flight e reply t settled = record {
-  turned = turned_is s es fs packets begins asks goes w flight e reply t;
-  idle = λ not. absurd (cc);
-  settled = settled;
-}
+-- What the shards answer to an access of an incarnation with this clock: its reply and its stamp.
+pub record IsAnswered (histories after : List (List Entry)) (now incarnation : ℕ) (ask : Ask) (reply : Reply)
+    (stamp : ℕ) : Type 0 where
+  pub made : after ≡ with_entry_on histories (entry_on histories now incarnation ask.item ask.request)
+  pub reply_is : reply ≡ (entry_on histories now incarnation ask.item ask.request).reply
+  pub stamp_is : stamp ≡ (entry_on histories now incarnation ask.item ask.request).stamp
 
--- the verdicts of a worker that was stopped by this access
-stopped_verdict : {F : Type 0} (s : Setting F) (es : List Entry) (w : Worker F) (e : Entry) (post : Post) (m : ℕ) → e.incarnation ≡ w.incarnation → is_stopped (actor_of w) (part_of w.incarnation (es ++ e ∷ [])) ≡ true → post.actor ≡ actor_of w → verdict_by s (es ++ e ∷ []) w.incarnation post m ≡ verdict_at (stand_of s w.incarnation m es)
-stopped_verdict s es w e post m mine stopped same =
-    let part : List Entry = part_of w.incarnation (es ++ e ∷ []) in
-    let at : List Entry → Verdict = λ l. verdict_at (stand_after (s.machine w.incarnation) (s.begins w.incarnation m) (of_item m l)) in
-    ap (λ b. at (counted b part)) (ap (λ actor. is_stopped actor part) same ∙ stopped)
-    ∙ (ap (λ l. at (counted true l)) (part_more w.incarnation es e mine) ∙ ap at (counted_front (part_of w.incarnation es) e))
+module _ {G F : Type 0} (work : G → Workload F) (stage : Stage F) (m : List Entry) (number : ℕ) (actor : Actor) where
+  -- a turn that makes the access that is wanted
+  pub turn_made : (histories after : List (List Entry)) (old new : Acting G F) (now stamp incarnation : ℕ) (ask : Ask)
+      (reply : Reply) → HasHistories stage m histories → IsAt work stage m number actor old now →
+      ask_by old ≡ Some ask → wanted_at stage m number actor ≡ Some ask → incarnation ≡ stage.base + number →
+      IsAnswered histories after now incarnation ask reply stamp →
+      ((job : Job F) (own : List Entry) (e : Entry) → StandsBy work job own old → IsAnswer (ask_by old) reply e →
+      StandsBy work job (own ++ e ∷ []) new) → IsTurn work stage m number actor after new stamp true
+  turn_made histories after old new now stamp incarnation ask reply h at asks wants inc answered stands =
+      let own : ℕ = stage.base + number in
+      let e : Entry = entry_after stage.setting (way_in stage) m own ask in
+      let is : entry_on histories now incarnation ask.item ask.request ≡ e =
+      ap (λ i. entry_on histories now i ask.item ask.request) inc
+      ∙ entry_is stage m number now histories ask h at.clock_is in
+      let list : m ++ e ∷ [] ≡ after_turn stage m number actor =
+      ap (with_access stage.setting (way_in stage) m own) (sym wants) in
+      let whole : with_entry_on histories e ≡ after = ap (with_entry_on histories) (sym is) ∙ sym answered.made in
+      let answer : IsAnswer (ask_by old) reply e =
+      subst (λ o. IsAnswer o reply e) (sym asks)
+      (refl, refl, sym (answered.reply_is ∙ ap (λ (f : Entry). f.reply) is)) in
+      record {
+        idle = λ not. absurd (cc);
+        kept = subst (λ l. HasHistories stage l after) list
+            (subst (HasHistories stage (m ++ e ∷ [])) whole
+            (histories_more stage m number now histories ask h at.epoch_is));
+        at = subst (λ l. IsAt work stage l number actor new stamp) list (record {
+          epoch_is = at.epoch_is;
+          stands = subst (λ part. StandsBy work (job_at stage number actor) part new) (sym (part_more own m e refl))
+              (stands (job_at stage number actor) (part_of own m) e at.stands answer);
+          clock_is = answered.stamp_is
+              ∙ (ap (λ (f : Entry). f.stamp) is ∙ sym (clock-own (epoch_in stage) m e));
+        });
+      }
 
-pub stopped_here : {F : Type 0} (s : Setting F) (es : List Entry) (w : Worker F) (vs : Vec Verdict Global) (e : Entry) (packets : List Taken) (flight : F) (gone_flight : Option F) → s.batch ≡ 1 → slice_index s.lanes w.instance.lane ≡ length packets → IsWithin packets w → Works s es w → w.flight ≡ Some flight → is_last w.left ≡ true → e.incarnation ≡ w.incarnation → e.item ≡ packet_of w → gone_flight ≡ None → vs.items ≡ w.verdicts.items ++ Lost ∷ [] → WasStopped s (es ++ e ∷ []) (with_flight (with_verdicts w vs) w.left gone_flight)
-stopped_here s es w vs e packets flight gone_flight one lanes within h some last mine item idle more =
-    let made : length (part_of w.incarnation (es ++ e ∷ [])) ≡ length (part_of w.incarnation es) + 1 = part_longer w.incarnation es e mine in
-    let stop : w.instance.stop ≡ Some (length (part_of w.incarnation es) + 1) = stop_reached w.instance.stop w.left (length (part_of w.incarnation es)) last h.left in
-    let stopped : is_stopped (actor_of w) (part_of w.incarnation (es ++ e ∷ [])) ≡ true =
-    ap (λ o. is_stop o (length (part_of w.incarnation (es ++ e ∷ [])))) stop ∙ eq-eqb (length (part_of w.incarnation (es ++ e ∷ []))) (length (part_of w.incarnation es) + 1) made in
-    let n : length vs.items ≡ length w.verdicts.items + 1 = ap length more ∙ length_push w.verdicts.items Lost in
-    let l : packet_of w < w.end = within.flies flight some in
-    let end : w.end ≡ w.at + count_of s w.instance.lane w.at (actor_of w) = end_is s packets w lanes within in
-    let count : length (taken_of (actor_of w) (part_of w.incarnation es ++ e ∷ []) (offers_of s w.incarnation w.at (actor_of w))) ≡ e.item - w.at + 1 =
-    taken_by_stop s w.incarnation w.at w.instance.lane (actor_of w) (part_of w.incarnation es) e one refl
-    (subst (λ part. is_stopped (actor_of w) part ≡ true) (part_more w.incarnation es e mine) stopped) (omega arith) (omega arith) in
-    let q : e.item - w.at + 1 ≡ length vs.items = omega arith in
-    record {
-      stopped = stopped;
-      idle = idle;
-      count = ap (λ part. length (taken_of (actor_of w) part (offers_of s w.incarnation w.at (actor_of w)))) (part_more w.incarnation es e mine) ∙ (count ∙ q);
-      verdicts = λ post same.
-          subst (EachFrom (λ m v. v ≡ verdict_by s (es ++ e ∷ []) w.incarnation post m) w.at) (sym more)
-          (each_from-push (λ m v. v ≡ verdict_by s (es ++ e ∷ []) w.incarnation post m) w.at w.verdicts.items Lost
-          (each_from-same (λ m v. v ≡ verdict_at (stand_of s w.incarnation m es)) (λ m v. v ≡ verdict_by s (es ++ e ∷ []) w.incarnation post m) w.at w.verdicts.items
-          (λ m v a b is. is ∙ sym (stopped_verdict s es w e post m mine stopped same)) h.verdicts)
-          (sym (stopped_verdict s es w e post (packet_of w) mine stopped same ∙ ap verdict_at (h.flies flight some))));
-    }
+  -- a turn that makes none
+  pub turn_none : (histories : List (List Entry)) (i : Acting G F) (now : ℕ) → HasHistories stage m histories →
+      IsAt work stage m number actor i now → wanted_at stage m number actor ≡ None →
+      IsTurn work stage m number actor histories i now false
+  turn_none histories i now h at wants =
+      let list : m ≡ after_turn stage m number actor =
+      ap (with_access stage.setting (way_in stage) m (stage.base + number)) (sym wants) in
+      record {
+        idle = λ _. wants;
+        kept = subst (λ l. HasHistories stage l histories) list h;
+        at = subst (λ l. IsAt work stage l number actor i now) list at;
+      }
 
--- an access that is the last before the stop
-pub turn_stop : {F : Type 0} (s : Setting F) (es fs : List Entry) (packets : List Taken) (begins : ℕ → ℕ → Packet → Start F) (asks : F → Request) (goes : F → Reply → Step F) (w : Worker F) (flight : F) (vs : Vec Verdict Global) (e : Entry) (reply : Reply) (gone_flight : Option F) → Turning s es fs packets begins asks goes w flight e reply → is_last w.left ≡ true → gone_flight ≡ None → vs.items ≡ w.verdicts.items ++ Lost ∷ [] → IsTurn s es fs w (with_flight (with_verdicts w vs) w.left gone_flight) true
-turn_stop s es fs packets begins asks goes w flight vs e reply gone_flight t last idle more = record {
-  turned = turned_is s es fs packets begins asks goes w flight e reply t;
-  idle = λ not. absurd (cc);
-  settled = inl (subst (λ l. WasStopped s l (with_flight (with_verdicts w vs) w.left gone_flight)) (sym t.whole)
-      (stopped_here s es w vs e packets flight gone_flight t.by.one t.by.lanes t.within t.works t.some last t.mine t.item idle more));
-}
-
--- a turn of a worker without a flight
-pub turn_none : {F : Type 0} (s : Setting F) (es : List Entry) (packets : List Taken) (begins : ℕ → ℕ → Packet → Start F) (asks : F → Request) (goes : F → Reply → Step F) (w : Worker F) (gone_flight : Option F) → IsRunBy s w.incarnation w.instance.lane packets begins asks goes → IsWithin packets w → IsSettled s es w → w.flight ≡ None → gone_flight ≡ None → IsTurn s es es w (with_flight w w.left gone_flight) false
-turn_none s es packets begins asks goes w gone_flight by within settled idle is =
-    let nothing : wanted s es w.incarnation w.at (actor_of w) ≡ None = wants_nothing s es packets w by.lanes within settled idle in
-    record {
-      turned = sym (ap (with_access s es w.incarnation) nothing);
-      idle = λ not. nothing;
-      settled = subst (λ o. IsSettled s es (with_flight w w.left o)) (idle ∙ sym is) settled;
-    }
+-- an option that has nothing
+pub none_there : {X : Type 0} (o : Option X) → ((x : X) → o ≡ Some x → ⊥) → o ≡ None
+none_there None h = refl
+none_there (Some x) h = absurd (h x refl)

@@ -1,88 +1,87 @@
-ghost use Rattle.std.specs.Prelude.{◌≡◌, ◌*◌, ◌+◌, ◌^◌, ◌<◌, ◌≤◌, List, length, slice_get, map, IfOk, OnOk, IsTrue, nat_lt};
-ghost use Rattle.std.specs.List.{list_all};
-ghost use Rattle.slnf_base.specs.declared.plans.Service.{Service};
-ghost use Rattle.slnf_plan.specs.declared.plan.FunctionPlan.TheVariants.{Balancer};
-ghost use Rattle.slnf_flight.specs.Functions.{IsBalancer};
-ghost use Rattle.slnf_flight.specs.PlanSetting.{lb_setting};
-ghost use Rattle.slnf_flight.specs.Run.{IsRun};
-ghost use Rattle.slnf_flight.specs.Scheduled.{IsScheduled};
-ghost use Rattle.slnf_flight.specs.Verdicts.{verdicts_of, left_of, left_in, is_left};
-ghost use Rattle.slnf_access.specs.Store.{Stored};
-ghost use Rattle.slnf_flight.specs.Tables.{lists};
-ghost use Rattle.slnf_orch.specs.Ledger.{IsFitting};
-ghost use Rattle.slnf_orch.specs.Passing.{IsUnderWay};
-ghost use Rattle.slnf_flight.specs.Lanes.{packet_count, AreFew};
+ghost use Rattle.std.specs.Prelude.{◌≡◌, ◌^◌, ◌<◌, ◌≤◌, length, IfOk};
+ghost use Rattle.slnf_run.specs.Run.{IsRun};
+ghost use Rattle.slnf_run.specs.Scheduled.{IsScheduled, usual_way};
+ghost use Rattle.slnf_run.specs.Stamps.{HasClockStamps};
+ghost use Rattle.slnf_run.specs.Verdicts.{verdicts_of, is_left, left_of, left_in};
+ghost use Rattle.slnf_flight.specs.Actors.{eras_of};
+ghost use Rattle.slnf_flight.specs.Lanes.{packet_count};
+ghost use Rattle.slnf_flight.specs.PlanSetting.{setting_of};
+ghost use Rattle.slnf_setting.specs.Bound.{IsBoundedFor};
+ghost use Rattle.slnf_setting.specs.OneBoxOfPlan.{IsOneBoxOfPlan};
+ghost use Rattle.slnf_setting.specs.Pairs.{KeepsPairs};
+ghost use Rattle.slnf_setting.specs.Replies.{NoneIll};
+ghost use Rattle.slnf_setting.specs.Runs.{RunsWell};
+ghost use Rattle.slnf_orch.specs.Passing.{HaveAllPassed};
 
 use crate::epochs::run_epoch;
-use crate::ledger::{fill_all, no_verdicts};
-use slnf_access::ListStore;
+use crate::ledger::Ledger;
 use slnf_base::{NoMemory, Row, Verdict};
-use slnf_flight::{AnyFunction, Lane, Outcome};
+use slnf_flight::{Lane, Outcome};
 use slnf_plan::Plan;
+use slnf_setting::{know_types, plan_runs_so};
+use slnf_shards::Shards;
 use std::alloc::Global;
+use std::hash::RandomState;
 
-/// Runs the plan over its lanes by the plan's schedule, with the plain store. It always returns.
-pub fn step_plan(alloc: Global, plan: &Plan, lanes: &[Lane]) -> Result<Outcome, NoMemory>
-    requires balancer { IsBalancer plan.now.function }
-    requires one_by_one { plan.now.batch ≡ 1 }
+/// Runs the plan over its lanes by the plan's schedule, in time linear in its packets and accesses. It always returns.
+/// The shards' maps are hashed with this state, which no clause speaks of.
+pub fn step_plan(
+    alloc: Global,
+    state: RandomState,
+    plan: &Plan,
+    lanes: &[Lane],
+) -> Result<Outcome, NoMemory>
     requires few_lanes { length lanes.now ≤ 32 }
     requires few_packets { packet_count lanes.now ≤ 1048576 }
-    ensures scheduled { IfOk result (λ outcome. (service : Service) → plan.now.function ≡ Balancer service
-        → IsScheduled (lb_setting plan.now service lanes.now) outcome.journal) }
-    ensures run { IfOk result (λ outcome. (service : Service) → plan.now.function ≡ Balancer service
-        → IsRun (lb_setting plan.now service lanes.now) outcome.journal) }
-    ensures verdicts { IfOk result (λ outcome. (service : Service) → plan.now.function ≡ Balancer service
-        → outcome.verdicts ≡ verdicts_of (lb_setting plan.now service lanes.now) outcome.journal) }
+    // The journal is that of the plan's schedule, with the stamps of its clocks, and a run of the plan's setting.
+    ensures scheduled { IfOk result (λ outcome.
+        IsScheduled (setting_of plan.now lanes.now) (usual_way (eras_of plan.now.epochs)) outcome.journal) }
+    ensures stamps { IfOk result (λ outcome. HasClockStamps (setting_of plan.now lanes.now) outcome.journal) }
+    ensures run { IfOk result (λ outcome. IsRun (setting_of plan.now lanes.now) outcome.journal) }
+    // One ordinary box explains it, and what holds of each run of the plan holds of it.
+    ensures one_box { IfOk result (λ outcome. IsOneBoxOfPlan plan.now lanes.now outcome.journal) }
+    ensures pairs { IfOk result (λ outcome. KeepsPairs plan.now.function outcome.journal) }
+    ensures none_ill { IfOk result (λ outcome. NoneIll plan.now.function outcome.journal) }
+    ensures bounded { IfOk result (λ outcome.
+        IsBoundedFor plan.now.function (setting_of plan.now lanes.now).scene.begins outcome.journal) }
+    ensures few { IfOk result (λ outcome. length outcome.journal < 2 ^ 41) }
+    ensures well { IfOk result (λ outcome.
+        RunsWell plan.now.function (setting_of plan.now lanes.now) outcome.journal) }
+    // Each packet's verdict is the journal's.
+    ensures verdicts { IfOk result (λ outcome.
+        outcome.verdicts ≡ verdicts_of (setting_of plan.now lanes.now) outcome.journal) }
     ensures left { IfOk result (λ outcome. outcome.left ≡ left_in outcome.verdicts) }
 {
-    let mut store = ListStore::make(alloc, plan.shards);
-    let mut ledger = no_verdicts(alloc, lanes)?;
-    let mut base = 0;
-    for number in 0..plan.epochs.len() {
-        base = step_epoch(alloc, plan, lanes, number, base, &mut store, &mut ledger)?;
-    }
-    let verdicts = fill_all(alloc, lanes, ledger.as_slice())?;
+    know_types(plan);
+    plan_runs_so();
+    let (shards, ledger) = pass_epochs(alloc, state, plan, lanes)?;
+    let journal = shards.journal(alloc)?;
+    let verdicts = ledger.fill(alloc, lanes)?;
     let left = left_in(verdicts.as_slice());
-    let journal = Vec::from_slice(alloc, store.entries())?;
     Ok(Outcome {
-        journal: Row::from_vec(journal),
-        verdicts: Row::from_vec(verdicts),
+        journal,
+        verdicts,
         left,
     })
 }
 
-/// Runs the epoch with this number, whose first incarnation is `base`, and answers the first incarnation behind it.
-fn step_epoch(
+/// Runs all epochs of the plan, one after another.
+fn pass_epochs(
     alloc: Global,
+    state: RandomState,
     plan: &Plan,
     lanes: &[Lane],
-    number: usize,
-    base: u64,
-    store: &mut ListStore,
-    ledger: &mut Vec<Vec<Verdict>>,
-) -> Result<u64, NoMemory>
-    requires balancer { IsBalancer plan.now.function }
-    requires one_by_one { plan.now.batch ≡ 1 }
-    requires there { number < length plan.now.epochs }
-    requires base { base ≤ 32 * number }
-    requires few { AreFew lanes.now }
-    requires fits { IsFitting lanes.now (lists ledger.old.items) }
-    requires count { length ledger.old.items ≡ length lanes.now }
-    requires shards { store.old.shards ≡ plan.now.shards }
-    requires under_way { (service : Service) → plan.now.function ≡ Balancer service
-        → IsUnderWay (lb_setting plan.now service lanes.now) number base store.old.entries (lists ledger.old.items) }
-    ensures base { IfOk result (λ next. next ≤ 32 * (number + 1)) }
-    ensures fits { OnOk result (IsFitting lanes.now (lists ledger.new.items)) }
-    ensures count { OnOk result (length ledger.new.items ≡ length ledger.old.items) }
-    ensures shards { OnOk result (store.new.shards ≡ store.old.shards) }
-    ensures counts { OnOk result (length store.old.entries < 2 ^ 62 → length store.new.entries < 2 ^ 62) }
-    ensures under_way { IfOk result (λ next. (service : Service) → plan.now.function ≡ Balancer service
-        → IsUnderWay (lb_setting plan.now service lanes.now) (number + 1) next store.new.entries (lists ledger.new.items)) }
+) -> Result<(Shards, Ledger), NoMemory>
+    requires few_packets { packet_count lanes.now ≤ 1048576 }
+    ensures { IfOk result (λ end. HaveAllPassed plan.now lanes.now end.0 end.1) }
 {
-    let function = AnyFunction::of(alloc, plan, number)?;
-    let epoch = &plan.epochs.as_slice()[number];
-    run_epoch(alloc, &function, lanes, base, epoch, store, ledger)?;
-    Ok(base + epoch.instances.len() as u64)
+    let mut shards = Shards::make(alloc, state, plan.shards)?;
+    let mut ledger = Ledger::make(alloc, 32)?;
+    let mut base = 0;
+    for number in 0..plan.epochs.len() {
+        base = run_epoch(alloc, plan, lanes, number, base, &mut shards, &mut ledger)?;
+    }
+    Ok((shards, ledger))
 }
 
 /// How many packets of all lanes are left.

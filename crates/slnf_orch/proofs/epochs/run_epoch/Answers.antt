@@ -1,29 +1,160 @@
--- the epoch has passed
-use Rattle.std.proofs.Common.{◌≡◌, ◌++◌, length, sym, ap, ◌∙◌, subst, arith}
-use Rattle.std.proofs.lemmas.List.{length-map}
-use Rattle.slnf_orch.specs.Epochs.{IsTurned}
-use Rattle.slnf_flight.specs.Tables.{lists}
-use Rattle.slnf_orch.specs.Ledger.{places_in, verdicts_at, given_on, AreMade}
-use Rattle.slnf_orch.proofs.AtWork.{at_work_made, within_made, passed}
+-- the epoch's crew passes it, and the run goes on behind it
+use Rattle.std.proofs.Common.{◌≡◌, ◌+◌, ◌≤◌, ◌<◌, ◌++◌, ◌∙◌, true, ℕ, List, length, slice_get, nat_lt, sym, ap, subst, arith}
+use Rattle.std.specs.List.{list_all}
+use Rattle.std.proofs.lemmas.List.{length-replicate}
+use Rattle.slnf_plan.specs.declared.plan.Epoch.{Epoch}
+use Rattle.slnf_plan.specs.declared.plan.InstancePlan.{InstancePlan}
+use Rattle.slnf_plan.specs.Ranges.{actor_count}
+use Rattle.slnf_access.specs.declared.requests.Entry.{Entry}
+use Rattle.slnf_instance.specs.Items.{Workload}
+use Rattle.slnf_flight.specs.declared.flights.AnyFlight.{AnyFlight}
+use Rattle.slnf_flight.specs.Actors.{instance_actor, era_of_epoch}
+use Rattle.slnf_flight.specs.PlanSetting.{setting_of}
+use Rattle.slnf_run.specs.Jobs.{Job}
+use Rattle.slnf_run.specs.Parts.{part_of}
+use Rattle.slnf_orch.specs.Actors.{Stage, at_work, turns_in, AreStanding, AreDone}
+use Rattle.slnf_orch.specs.Hiring.{items_work}
+use Rattle.slnf_orch.specs.Ledger.{verdicts_at, places_in, DoStand, given_from}
+use Rattle.slnf_orch.specs.Passing.{IsUnderWay}
+use Rattle.slnf_orch.proofs.EpochPasses.{instance_at, instances_most, epoch_stage, crew_stands, crew_has_room, end_list, end_stands, has_ended}
+use Rattle.slnf_orch.proofs.Giving.{job_there}
+use Rattle.slnf_orch.proofs.Hired.{HasEpoch, has_epoch}
+use Rattle.slnf_orch.proofs.PlanEpochs.{is_epoch, lanes_few, actors_count}
+use Rattle.slnf_orch.proofs.Pushes.{at_index}
+use Rattle.slnf_orch.proofs.SettingOut.{one_number}
+use Rattle.slnf_orch.proofs.UnderWay.{era_there, under_way_next}
 use Rattle.slnf_orch.proofs.epochs.run_epoch.Goals as goal
 
-pub turns_by-requires-clause-within : goal.turns_by-requires-clause-within
-turns_by-requires-clause-within g c =
-    within_made c.args.lanes.now _ _ _ c.args.base c.as_slice-instances.result.now (lists c.as_slice.result.now) c.in_ok-workers.workers.items c.in_ok-workers.ensures
+pub items_of-requires-clause-few : goal.items_of-requires-clause-few
+items_of-requires-clause-few c = lanes_few c.args.lanes.now c.requires.few_packets
 
-pub returns-clause-passed : goal.returns-clause-passed
-returns-clause-passed g c s era shards are schedule runs fresh =
-    let made = subst (λ l. AreMade c.args.lanes.now (g.F.Function.behaviour c.args.function.now).begins (g.F.Function.behaviour c.args.function.now).asks (g.F.Function.behaviour c.args.function.now).goes c.args.base c.args.epoch.now.instances (lists l) c.in_ok-workers.workers.items) c.as_slice.ensures.value
-    (subst (λ l. AreMade c.args.lanes.now (g.F.Function.behaviour c.args.function.now).begins (g.F.Function.behaviour c.args.function.now).asks (g.F.Function.behaviour c.args.function.now).goes c.args.base l (lists c.as_slice.result.now) c.in_ok-workers.workers.items) c.as_slice-instances.ensures c.in_ok-workers.ensures) in
-    let places = places_in (lists c.args.ledger.now.items) in
-    let at_work = at_work_made s c.args.store.now.entries c.args.lanes.now _ _ _ c.args.base c.args.epoch.now.instances (lists c.args.ledger.now.items) era.actors c.in_ok-workers.workers.items made are runs fresh in
-    let turned = subst (λ l. IsTurned s c.args.store.now.entries c.turns_by.new.store.entries c.args.lanes.now (g.F.Function.behaviour c.args.function.now).begins (g.F.Function.behaviour c.args.function.now).asks (g.F.Function.behaviour c.args.function.now).goes c.args.base places era c.turns_by.new.workers.items l) (c.as_slice-2.ensures ∙ sym schedule)
-    (c.in_ok-turns_by.ensures.turned s c.args.base places era shards at_work) in
-    let done = c.in_ok-rounds.ensures.done s c.args.base places era (shards ∙ sym c.in_ok-turns_by.ensures.shards) turned.at_work in
-    let before : length (lists c.args.ledger.now.items) ≡ length c.args.ledger.now.items = length-map c.args.ledger.now.items _ in
-    let after : length (lists c.hand_over.new.ledger.items) ≡ length c.hand_over.new.ledger.items = length-map c.hand_over.new.ledger.items _ in
-    passed s c.args.store.now.entries c.turns_by.new.store.entries c.rounds.new.store.entries c.args.lanes.now _ _ _ c.args.base era
-    (lists c.args.ledger.now.items) (lists c.hand_over.new.ledger.items) c.turns_by.new.workers.items c.rounds.new.workers.items turned done
-    c.in_ok-rounds.ensures.within (before ∙ c.requires.count) (after ∙ (c.in_ok-hand_over.ensures.count ∙ sym before))
-    (λ lane l. c.in_ok-hand_over.ensures.given lane (omega arith)
-    ∙ ap (λ ws. verdicts_at (lists c.args.ledger.now.items) lane ++ given_on lane ws) c.as_slice-3.ensures.value)
+pub crew_of-requires : goal.crew_of-requires
+crew_of-requires c = record {
+  fits = λ k item i item_at i_at.
+      let there = ap (λ l. slice_get l k) (sym c.as_slice-2.ensures.value) ∙ item_at in
+      let work = c.in_ok-items.ensures.each k item (instance_actor i) there
+      (instance_at c.index-as_slice-number.result k i i_at) in
+      subst (λ (w : Workload AnyFlight). places_in c.args.ledger.now i.lane ≤ w.count) (sym work)
+      (c.requires.under_way.fits i.lane);
+}
+
+pub turns_by-requires-clause-there : goal.turns_by-requires-clause-there
+turns_by-requires-clause-there c =
+    let epoch : Epoch = c.index-as_slice-number.result in
+    let at = at_index c.args.plan.now.epochs c.as_slice.result.now c.args.number epoch c.as_slice.ensures
+    c.requires.there c.index-as_slice-number.is in
+    let count : length c.in_ok-crew.crew.items ≡ actor_count epoch =
+    c.in_ok-crew.ensures.count ∙ (ap length c.as_slice-2.ensures.value
+    ∙ (c.in_ok-items.ensures.count ∙ actors_count epoch)) in
+    subst (λ n. list_all (λ k. nat_lt k n) c.as_slice-3.result.now ≡ true) (sym count)
+    (subst (λ l. list_all (λ k. nat_lt k (actor_count epoch)) l ≡ true) (sym c.as_slice-3.ensures)
+    (is_epoch c.args.plan.now c.args.number epoch at).schedule)
+
+pub turns_by-requires-clause-room : goal.turns_by-requires-clause-room
+turns_by-requires-clause-room c =
+    let plan = c.args.plan.now in
+    let lanes = c.args.lanes.now in
+    let epoch : Epoch = c.index-as_slice-number.result in
+    let h : IsUnderWay plan lanes c.args.number c.args.base c.args.shards.now c.args.ledger.now =
+    c.requires.under_way in
+    let at = at_index plan.epochs c.as_slice.result.now c.args.number epoch c.as_slice.ensures
+    c.requires.there c.index-as_slice-number.is in
+    let e : HasEpoch plan lanes c.args.number c.args.base epoch c.in_ok-function.function =
+    has_epoch plan lanes c.args.number c.args.base epoch c.in_ok-function.function at h.base_is
+    c.in_ok-function.ensures (c.plan_begins_so.ensures.machine plan lanes)
+    (λ o of i item packet. c.function_is_plans.ensures.starts plan.function o c.in_ok-function.function of i item packet)
+    (λ k item i there. c.plan_begins_so.ensures.instance plan lanes c.args.number k item epoch i at there)
+    (λ item pool stop is sweeps.
+    c.plan_begins_so.ensures.sweep plan lanes c.args.number item epoch pool stop is at sweeps) in
+    let crew_count : length c.in_ok-crew.crew.items ≡ length (era_of_epoch epoch).actors =
+    c.in_ok-crew.ensures.count ∙ (ap length c.as_slice-2.ensures.value ∙ c.in_ok-items.ensures.count) in
+    let len : c.len-count.result ≡ length c.in_ok-crew.crew.items =
+    omega (arith, c.len-count.ensures, c.in_ok-crew.crew.ok) in
+    let clocks = c.in_ok-clocks.ensures.items_if_clones_equal (λ y same. same) in
+    let clocks_count : length c.in_ok-clocks.clocks.items ≡ length (era_of_epoch epoch).actors =
+    ap length clocks ∙ (length-replicate _ _ ∙ (len ∙ crew_count)) in
+    crew_has_room plan lanes c.args.number c.args.base epoch c.args.shards.now c.args.ledger.now h
+    c.in_ok-crew.crew.items c.in_ok-clocks.clocks.items at
+    (crew_stands plan lanes c.args.number c.args.base epoch c.args.shards.now c.args.ledger.now h
+    c.in_ok-function.function c.in_ok-crew.crew.items c.in_ok-clocks.clocks.items e
+    (c.in_ok-crew.ensures.hired c.in_ok-function.function lanes c.args.base
+    (λ k item actor item_at actor_at. c.in_ok-items.ensures.each k item actor
+    (ap (λ l. slice_get l k) (sym c.as_slice-2.ensures.value) ∙ item_at) actor_at)) crew_count clocks_count
+    (λ k x there. one_number c.in_ok-clocks.clocks.items _ c.latest.result clocks k x there ∙ c.latest.ensures.value))
+    (λ m made. c.plan_passes_few.ensures.fewer plan lanes c.args.number c.args.base (places_in c.args.ledger.now) m
+    c.know_types.ensures c.requires.few_packets made)
+
+pub hand_over-requires-clause-there : goal.hand_over-requires-clause-there
+hand_over-requires-clause-there c k i i_at =
+    let epoch : Epoch = c.index-as_slice-number.result in
+    let at = at_index c.args.plan.now.epochs c.as_slice.result.now c.args.number epoch c.as_slice.ensures
+    c.requires.there c.index-as_slice-number.is in
+    let low : i.lane < 32 = (is_epoch c.args.plan.now c.args.number epoch at).lanes k i
+    (ap (λ l. slice_get l k) (sym c.as_slice-4.ensures) ∙ i_at) in
+    let lanes : length c.args.ledger.now ≡ 32 = c.requires.under_way.lanes_are in
+    omega arith
+
+pub returns-clause-under_way : goal.returns-clause-under_way
+returns-clause-under_way c =
+    let plan = c.args.plan.now in
+    let lanes = c.args.lanes.now in
+    let epoch : Epoch = c.index-as_slice-number.result in
+    let h : IsUnderWay plan lanes c.args.number c.args.base c.args.shards.now c.args.ledger.now =
+    c.requires.under_way in
+    let at = at_index plan.epochs c.as_slice.result.now c.args.number epoch c.as_slice.ensures
+    c.requires.there c.index-as_slice-number.is in
+    let e : HasEpoch plan lanes c.args.number c.args.base epoch c.in_ok-function.function =
+    has_epoch plan lanes c.args.number c.args.base epoch c.in_ok-function.function at h.base_is
+    c.in_ok-function.ensures (c.plan_begins_so.ensures.machine plan lanes)
+    (λ o of i item packet. c.function_is_plans.ensures.starts plan.function o c.in_ok-function.function of i item packet)
+    (λ k item i there. c.plan_begins_so.ensures.instance plan lanes c.args.number k item epoch i at there)
+    (λ item pool stop is sweeps.
+    c.plan_begins_so.ensures.sweep plan lanes c.args.number item epoch pool stop is at sweeps) in
+    let len : c.len-count.result ≡ length c.in_ok-crew.crew.items =
+    omega (arith, c.len-count.ensures, c.in_ok-crew.crew.ok) in
+    let crew_count : length c.in_ok-crew.crew.items ≡ length (era_of_epoch epoch).actors =
+    c.in_ok-crew.ensures.count ∙ (ap length c.as_slice-2.ensures.value ∙ c.in_ok-items.ensures.count) in
+    let clocks = c.in_ok-clocks.ensures.items_if_clones_equal (λ y same. same) in
+    let clocks_count : length c.in_ok-clocks.clocks.items ≡ length (era_of_epoch epoch).actors =
+    ap length clocks ∙ (length-replicate _ _ ∙ (len ∙ crew_count)) in
+    let stage : Stage AnyFlight =
+    epoch_stage plan lanes c.args.number c.args.base epoch c.args.shards.now c.args.ledger.now h in
+    let first = crew_stands plan lanes c.args.number c.args.base epoch c.args.shards.now c.args.ledger.now h
+    c.in_ok-function.function c.in_ok-crew.crew.items c.in_ok-clocks.clocks.items e
+    (c.in_ok-crew.ensures.hired c.in_ok-function.function lanes c.args.base
+    (λ k item actor item_at actor_at. c.in_ok-items.ensures.each k item actor
+    (ap (λ l. slice_get l k) (sym c.as_slice-2.ensures.value) ∙ item_at) actor_at)) crew_count clocks_count
+    (λ k x there. one_number c.in_ok-clocks.clocks.items _ c.latest.result clocks k x there ∙ c.latest.ensures.value) in
+    let turned : AreStanding items_work stage (turns_in stage epoch.schedule h.list)
+    (at_work c.args.base c.turns_by.new.shards c.turns_by.new.instances.items c.turns_by.new.clocks.items) =
+    subst (λ l. AreStanding items_work stage (turns_in stage l h.list)
+    (at_work c.args.base c.turns_by.new.shards c.turns_by.new.instances.items c.turns_by.new.clocks.items))
+    c.as_slice-3.ensures (c.in_ok-turns_by.ensures.turned stage h.list first) in
+    let done : AreDone items_work stage (turns_in stage epoch.schedule h.list)
+    (at_work c.args.base c.rounds.new.shards c.rounds.new.instances.items c.rounds.new.clocks.items) =
+    c.in_ok-rounds.ensures.done stage (turns_in stage epoch.schedule h.list) turned in
+    let fs : List Entry = end_list plan lanes c.args.number c.args.base epoch c.args.shards.now c.args.ledger.now h
+    c.rounds.new.shards c.rounds.new.instances.items c.rounds.new.clocks.items at done in
+    let jobs : ℕ → InstancePlan → Job AnyFlight = λ k i.
+    job_there (setting_of plan lanes) (places_in c.args.ledger.now) (c.args.base + k) (instance_actor i) in
+    let owns : ℕ → List Entry = λ k. part_of (c.args.base + k) fs in
+    let stands : DoStand items_work jobs owns c.rounds.new.instances.items epoch.instances =
+    end_stands plan lanes c.args.number c.args.base epoch c.args.shards.now c.args.ledger.now h
+    c.rounds.new.shards c.rounds.new.instances.items c.rounds.new.clocks.items at done in
+    let given : (lane : ℕ) → verdicts_at c.hand_over.new.ledger lane
+    ≡ verdicts_at c.args.ledger.now lane ++ given_from jobs owns 0 epoch.instances lane =
+    subst (λ l. (lane : ℕ) → verdicts_at c.hand_over.new.ledger lane
+    ≡ verdicts_at c.args.ledger.now lane ++ given_from jobs owns 0 l lane) c.as_slice-4.ensures
+    (c.in_ok-hand_over.ensures.given jobs owns
+    (subst (λ l. length l ≤ length c.rounds.new.instances.items) (sym c.as_slice-4.ensures)
+    (instances_most epoch c.rounds.new.instances.items done.stands.count))
+    (subst (λ l. DoStand items_work jobs owns c.rounds.new.instances.items l) (sym c.as_slice-4.ensures) stands)) in
+    subst (λ n. IsUnderWay plan lanes (c.args.number + 1) (c.args.base + n) c.rounds.new.shards c.hand_over.new.ledger)
+    (sym (len ∙ crew_count))
+    (under_way_next plan lanes c.args.number c.args.base epoch c.args.shards.now c.args.ledger.now at h fs
+    c.hand_over.new.ledger c.rounds.new.shards
+    (has_ended plan lanes c.args.number c.args.base epoch c.args.shards.now c.args.ledger.now h
+    c.rounds.new.shards c.rounds.new.instances.items c.rounds.new.clocks.items at done c.hand_over.new.ledger given)
+    ((c.plan_has_one_box.ensures.sound plan lanes).lanes_once c.args.number (era_of_epoch epoch)
+    (era_there plan c.args.number epoch at))
+    c.in_ok-hand_over.ensures.count)

@@ -1,6 +1,6 @@
 -- what is counted, and what is left to count, are all
 use Rattle.std.proofs.Common.{◌≡◌, ◌+◌, drop}
-use Rattle.slnf_flight.specs.Verdicts.{left_in}
+use Rattle.slnf_run.specs.Verdicts.{left_in}
 use Rattle.slnf_orch.proofs.plans.left_in.Given as goal
 
 abbrev pub invariant-loop-verdicts : goal.invariant-loop-verdicts

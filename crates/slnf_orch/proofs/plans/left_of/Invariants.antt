@@ -1,6 +1,6 @@
 -- what is counted, and what is left to count, are all
 use Rattle.std.proofs.Common.{◌≡◌, ◌≤◌, ◌+◌, drop}
-use Rattle.slnf_flight.specs.Verdicts.{left_of}
+use Rattle.slnf_run.specs.Verdicts.{left_of}
 use Rattle.slnf_orch.proofs.plans.left_of.Given as goal
 
 abbrev pub invariant-loop-verdict : goal.invariant-loop-verdict

@@ -1,0 +1,125 @@
+-- An epoch of a plan, from its crew to its end.
+use Rattle.std.proofs.Common.{◌≡◌, ℕ, ◌+◌, ◌≤◌, ◌<◌, ◌^◌, Some, List, [], ◌++◌, length, map, slice_get, option_map, refl, ap, ◌∙◌, subst, arith}
+use Rattle.std.specs.List.{repeat}
+use Rattle.std.proofs.lemmas.List.{length-append, length-map}
+use Rattle.std.proofs.lemmas.Option.{slice_get-map, slice_get_within}
+use Rattle.slnf_base.specs.declared.packets.Verdict.{Verdict}
+use Rattle.slnf_access.specs.declared.requests.Entry.{Entry}
+use Rattle.slnf_plan.specs.declared.plan.Epoch.{Epoch}
+use Rattle.slnf_plan.specs.declared.plan.InstancePlan.{InstancePlan}
+use Rattle.slnf_plan.specs.declared.plan.Plan.{Plan}
+use Rattle.slnf_run.specs.Made.{greatest_last}
+use Rattle.slnf_run.specs.Parts.{part_of}
+use Rattle.slnf_run.specs.Scheduled.{usual_way, by_rounds, turns, round}
+use Rattle.slnf_run.specs.SoFar.{IsSoFar}
+use Rattle.slnf_run.proofs.Lists.{slice_get-append_left}
+use Rattle.slnf_shards.proofs.Laws.{is_first_clock}
+use Rattle.slnf_instance.specs.Instances.{Acting, StandsBy}
+use Rattle.slnf_flight.specs.declared.flights.AnyFlight.{AnyFlight}
+use Rattle.slnf_flight.specs.declared.functions.AnyFunction.{AnyFunction}
+use Rattle.slnf_flight.specs.declared.lanes.Lane.{Lane}
+use Rattle.slnf_flight.specs.Actors.{instance_actor, sweep_actors, era_of_epoch, eras_of}
+use Rattle.slnf_flight.specs.PlanSetting.{setting_of}
+use Rattle.slnf_orch.specs.declared.items.ActorItems.{ActorItems}
+use Rattle.slnf_orch.specs.Actors.{Stage, at_work, turns_in, AreStanding, AreDone, HasRoom}
+use Rattle.slnf_orch.specs.Hiring.{items_work, AreHired}
+use Rattle.slnf_orch.specs.Ledger.{verdicts_at, places_in, DoStand, given_from}
+use Rattle.slnf_orch.specs.Passing.{IsUnderWay}
+use Rattle.slnf_orch.proofs.Giving.{job_there}
+use Rattle.slnf_orch.proofs.Hired.{HasEpoch, hired_job}
+use Rattle.slnf_orch.proofs.Places.{some_at}
+use Rattle.slnf_orch.proofs.Plain.{nobody_plain}
+use Rattle.slnf_orch.proofs.SettingOut.{stage_of, standing_first, room_first}
+use Rattle.slnf_orch.proofs.UnderWay.{era_there, so_far, passes_of, HasEnded}
+
+-- an instance's actor stands at the instance's place
+pub instance_at : (epoch : Epoch) (k : ℕ) (i : InstancePlan) → slice_get epoch.instances k ≡ Some i →
+    slice_get (era_of_epoch epoch).actors k ≡ Some (instance_actor i)
+instance_at epoch k i at =
+    slice_get-append_left (map instance_actor epoch.instances) (sweep_actors epoch.sweep) k (instance_actor i)
+    (slice_get-map instance_actor epoch.instances k ∙ ap (option_map instance_actor) at)
+
+-- an epoch has no more instances than actors
+pub instances_most : {X : Type 0} (epoch : Epoch) (crew : List X) → length crew ≡ length (era_of_epoch epoch).actors →
+    length epoch.instances ≤ length crew
+instances_most epoch crew count =
+    let all : length (era_of_epoch epoch).actors
+    ≡ length (map instance_actor epoch.instances) + length (sweep_actors epoch.sweep) =
+    length-append (map instance_actor epoch.instances) (sweep_actors epoch.sweep) in
+    let own : length (map instance_actor epoch.instances) ≡ length epoch.instances =
+    length-map epoch.instances instance_actor in
+    omega arith
+
+module _ (plan : Plan) (lanes : List Lane) (number base : ℕ) (epoch : Epoch) (histories : List (List Entry))
+    (ledger : List (List Verdict)) (h : IsUnderWay plan lanes number base histories ledger) where
+  -- the epoch as its actors see it
+  abbrev pub epoch_stage : Stage AnyFlight
+  epoch_stage = stage_of (setting_of plan lanes) number base (places_in ledger) (era_of_epoch epoch)
+
+  -- the crew stands before its first access
+  pub crew_stands : (function : AnyFunction) (crew : List (Acting ActorItems AnyFlight)) (clocks : List ℕ) →
+      HasEpoch plan lanes number base epoch function →
+      AreHired plan function lanes (places_in ledger) base epoch crew →
+      length crew ≡ length (era_of_epoch epoch).actors → length clocks ≡ length (era_of_epoch epoch).actors →
+      ((k c : ℕ) → slice_get clocks k ≡ Some c → c ≡ greatest_last histories) →
+      AreStanding items_work epoch_stage h.list (at_work base histories crew clocks)
+  crew_stands function crew clocks e hired count clocks_count clocked =
+      standing_first items_work (setting_of plan lanes) h.list number base (places_in ledger) (era_of_epoch epoch)
+      histories crew clocks h.ready e.base_is (era_there plan number epoch e.at) count clocks_count clocked
+      is_first_clock
+      (λ k i actor i_at actor_at.
+      let w = hired k i actor i_at actor_at in
+      subst (λ job. StandsBy items_work job [] i)
+      (hired_job plan lanes number base epoch function (places_in ledger) e k actor w.work actor_at w.works) w.stands)
+
+  -- and there are stamps for all its accesses
+  pub crew_has_room : (crew : List (Acting ActorItems AnyFlight)) (clocks : List ℕ) →
+      slice_get plan.epochs number ≡ Some epoch →
+      AreStanding items_work epoch_stage h.list (at_work base histories crew clocks) →
+      ((m : List Entry) → IsSoFar (setting_of plan lanes) (usual_way (eras_of plan.epochs)) number base
+      (places_in ledger) m → length m < 2 ^ 41) →
+      HasRoom items_work (at_work base histories crew clocks)
+  crew_has_room crew clocks at stands few =
+      room_first items_work (setting_of plan lanes) h.list number base (places_in ledger) (era_of_epoch epoch)
+      histories crew clocks stands
+      (λ numbers. few (turns (setting_of plan lanes) (usual_way (eras_of plan.epochs)) base (places_in ledger)
+      (era_of_epoch epoch) numbers h.list) (so_far plan lanes number base epoch histories ledger at h numbers))
+
+  module _ (next : List (List Entry)) (crew : List (Acting ActorItems AnyFlight)) (clocks : List ℕ)
+      (at : slice_get plan.epochs number ≡ Some epoch)
+      (done : AreDone items_work epoch_stage (turns_in epoch_stage epoch.schedule h.list)
+      (at_work base next crew clocks)) where
+    -- the accesses up to its end
+    abbrev pub end_list : List Entry
+    end_list = turns_in epoch_stage (repeat done.rounds (round (era_of_epoch epoch)))
+        (turns_in epoch_stage epoch.schedule h.list)
+
+    -- the instances' actors stand behind them
+    pub end_stands : DoStand items_work
+        (λ k i. job_there (setting_of plan lanes) (places_in ledger) (base + k) (instance_actor i))
+        (λ k. part_of (base + k) end_list) crew epoch.instances
+    end_stands k actor i actor_at i_at =
+        let there : slice_get (era_of_epoch epoch).actors k ≡ Some (instance_actor i) = instance_at epoch k i i_at in
+        let inside : k < length crew = slice_get_within crew k actor actor_at in
+        let count : length crew ≡ length (era_of_epoch epoch).actors = done.stands.count in
+        let clocks_count : length clocks ≡ length (era_of_epoch epoch).actors = done.stands.clocks_are in
+        let c = some_at clocks k (omega arith) in
+        (done.stands.each k (instance_actor i) actor c.0 there actor_at c.1).stands
+
+    -- and the epoch has ended
+    pub has_ended : (after : List (List Verdict)) →
+        ((lane : ℕ) → verdicts_at after lane ≡ verdicts_at ledger lane
+        ++ given_from (λ k i. job_there (setting_of plan lanes) (places_in ledger) (base + k) (instance_actor i))
+        (λ k. part_of (base + k) end_list) 0 epoch.instances lane) →
+        HasEnded plan lanes number base epoch histories ledger at h end_list after next
+    has_ended after given = record {
+      passes = record {
+        rounds = done.rounds;
+        turned = passes_of (setting_of plan lanes) number base (places_in ledger) (era_of_epoch epoch) h.list done.rounds
+            end_list refl;
+        nothing = nobody_plain (setting_of plan lanes) by_rounds (places_in ledger) end_list base
+            (era_of_epoch epoch).actors done.nothing;
+      };
+      kept = done.stands.kept;
+      given = given;
+    }

@@ -1,0 +1,44 @@
+-- No lane comes farther than its packets.
+use Rattle.std.proofs.Common.{◌≡◌, inl, inr, ℕ, ◌+◌, ◌-◌, ◌≤◌, if◌then◌else◌, List, [], ◌∷◌, length, slice_index, refl, ap, ◌∙◌, arith}
+use Rattle.std.proofs.lemmas.Bool.{cond-true, cond-false}
+use Rattle.slnf_access.specs.declared.requests.Entry.{Entry}
+use Rattle.slnf_run.specs.Setting.{Actor, Setting, is_on}
+use Rattle.slnf_run.specs.Parts.{part_of, at_lane, taken_on, taken_of, offers_of}
+use Rattle.slnf_run.specs.OneBox.{HasLanesOnce}
+use Rattle.slnf_run.proofs.LanePosts.{at_of_lane}
+use Rattle.slnf_run.proofs.TakenRows.{taken_most}
+use Rattle.slnf_orch.proofs.Apart.{NoneOn, none_on, rest_once, none_rest, not_so, either_way}
+
+module _ {F A : Type 0} (s : Setting F A) (es : List Entry) (places : ℕ → ℕ) (lane : ℕ) where
+  -- actors that aren't on the lane take nothing of it
+  none_taken : (i : ℕ) (actors : List Actor) → NoneOn lane actors → taken_on s es i places lane actors ≡ 0
+  none_taken i [] none = refl
+  none_taken i (actor ∷ actors) none =
+      ap (λ n. n + taken_on s es (i + 1) places lane actors)
+      (cond-false (is_on lane actor)
+      (length (taken_of actor (part_of i es) (offers_of s i (at_lane places actor) actor))) 0
+      (not_so (is_on lane actor) (none 0 actor refl)))
+      ∙ (let rest : taken_on s es (i + 1) places lane actors ≡ 0 =
+      none_taken (i + 1) actors (none_rest lane actor actors none) in omega arith)
+
+  -- the one that is takes at most what is left
+  pub taken_fits : (i : ℕ) (actors : List Actor) → HasLanesOnce actors →
+      taken_on s es i places lane actors ≤ slice_index s.lanes lane - places lane
+  taken_fits i [] once = omega arith
+  taken_fits i (actor ∷ actors) once =
+      let mine : ℕ = length (taken_of actor (part_of i es) (offers_of s i (at_lane places actor) actor)) in
+      elim (either_way (is_on lane actor)) [
+        | inl on ↦
+            let at : at_lane places actor ≡ places lane = at_of_lane places lane actor on in
+            let most : mine ≤ slice_index s.lanes lane - at_lane places actor =
+            taken_most s es lane i (at_lane places actor) actor on in
+            let first : (if is_on lane actor then mine else 0) ≡ mine = cond-true (is_on lane actor) mine 0 on in
+            let rest : taken_on s es (i + 1) places lane actors ≡ 0 =
+            none_taken (i + 1) actors (none_on lane actor actors once on) in
+            omega arith
+        | inr off ↦
+            let first : (if is_on lane actor then mine else 0) ≡ 0 = cond-false (is_on lane actor) mine 0 off in
+            let rest : taken_on s es (i + 1) places lane actors ≤ slice_index s.lanes lane - places lane =
+            taken_fits (i + 1) actors (rest_once actor actors once) in
+            omega arith
+      ]
