@@ -1,5 +1,5 @@
 -- The names of the files that a run writes differ.
-use Rattle.std.proofs.Common.{◌≡◌, ◌≢◌, ◌⊎◌, inl, inr, ℕ, ◌+◌, ◌^◌, ◌<◌, ◌≤◌, List, [], ◌∷◌, ◌++◌, length, refl, ap, sym, ◌∙◌, arith}
+use Rattle.std.proofs.Common.{◌≡◌, ◌≢◌, ◌⊎◌, inl, inr, ℕ, suc, ◌+◌, ◌^◌, ◌<◌, ◌≤◌, List, [], ◌∷◌, ◌++◌, length, refl, ap, sym, ◌∙◌, arith}
 use Rattle.std.specs.Prelude.{codes, decimal}
 use Rattle.std.proofs.lemmas.Fmt.{decimal_injective}
 use Rattle.std.proofs.lemmas.List.{append_cancel_left, append_cancel_right}
@@ -7,8 +7,9 @@ use Rattle.slnf_base.specs.declared.packets.Verdict.{Verdict}
 use Rattle.slnf_access.specs.declared.requests.Entry.{Entry}
 use Rattle.slnf_top.specs.declared.inputs.Given.{Given}
 use Rattle.slnf_top.specs.declared.outputs.File.{File}
-use Rattle.slnf_top.specs.Names.{capture_name, verdicts_name, journal_name, summary_name}
-use Rattle.slnf_top.specs.Effects.{IsOutput}
+use Rattle.slnf_top.specs.Words.{PlanWords, Step}
+use Rattle.slnf_top.specs.Names.{capture_name, capture_names, verdicts_name, journal_name, summary_name, outputs_of}
+use Rattle.slnf_top.specs.Effects.{IsAmong, IsOutput}
 use Rattle.slnf_journal.specs.Journal.{journal_text}
 use Rattle.slnf_journal.specs.Verdicts.{verdicts_text}
 use Rattle.slnf_journal.specs.Summary.{summary_text}
@@ -48,16 +49,20 @@ below : (a b : ℕ) → a < b → a ≡ b → ⊥
 below a b less same = omega arith
 
 capture_verdicts : (out : List ℕ) (lane : ℕ) → capture_name out lane ≢ verdicts_name out
-capture_verdicts out lane h = below 112 115 (omega arith) (sym (capture_last out lane) ∙ ap last_byte h ∙ verdicts_last out)
+capture_verdicts out lane h =
+    below 112 115 (omega arith) (sym (capture_last out lane) ∙ ap last_byte h ∙ verdicts_last out)
 
 capture_journal : (out : List ℕ) (lane : ℕ) → capture_name out lane ≢ journal_name out
-capture_journal out lane h = below 108 112 (omega arith) (sym (sym (capture_last out lane) ∙ ap last_byte h ∙ journal_last out))
+capture_journal out lane h =
+    below 108 112 (omega arith) (sym (sym (capture_last out lane) ∙ ap last_byte h ∙ journal_last out))
 
 capture_summary : (out : List ℕ) (lane : ℕ) → capture_name out lane ≢ summary_name
-capture_summary out lane h = below 45 112 (omega arith) (sym (sym (capture_last out lane) ∙ ap last_byte h ∙ summary_last))
+capture_summary out lane h =
+    below 45 112 (omega arith) (sym (sym (capture_last out lane) ∙ ap last_byte h ∙ summary_last))
 
 verdicts_journal : (out : List ℕ) → verdicts_name out ≢ journal_name out
-verdicts_journal out h = below 108 115 (omega arith) (sym (sym (verdicts_last out) ∙ ap last_byte h ∙ journal_last out))
+verdicts_journal out h =
+    below 108 115 (omega arith) (sym (sym (verdicts_last out) ∙ ap last_byte h ∙ journal_last out))
 
 verdicts_summary : (out : List ℕ) → verdicts_name out ≢ summary_name
 verdicts_summary out h = below 45 115 (omega arith) (sym (sym (verdicts_last out) ∙ ap last_byte h ∙ summary_last))
@@ -81,7 +86,8 @@ AreApart (file ∷ files) = (¬ IsNamed files file.name) × AreApart files
 named-append : (xs ys : List File) (name : List ℕ) → IsNamed (xs ++ ys) name → IsNamed xs name ⊎ IsNamed ys name
 named-append [] ys name h = inr h
 named-append (x ∷ xs) ys name (inl e) = inl (inl e)
-named-append (x ∷ xs) ys name (inr h) = elim (named-append xs ys name h) [ inl front ↦ inl (inr front) | inr back ↦ inr back ]
+named-append (x ∷ xs) ys name (inr h) =
+    elim (named-append xs ys name h) [ inl front ↦ inl (inr front) | inr back ↦ inr back ]
 
 -- a name of an output capture, from this lane on
 record IsFrom (out : List ℕ) (first last : ℕ) (name : List ℕ) : Type 0 where
@@ -90,24 +96,33 @@ record IsFrom (out : List ℕ) (first last : ℕ) (name : List ℕ) : Type 0 whe
   within : lane < last
   is : name ≡ capture_name out lane
 
-later : (out : List ℕ) (first last : ℕ) (name : List ℕ) → IsFrom out (first + 1) last name → IsFrom out first last name
-later out first last name h = let least : first + 1 ≤ h.lane = h.least in record { lane = h.lane; least = omega arith; within = h.within; is = h.is }
+later : (out : List ℕ) (first last : ℕ) (name : List ℕ) → IsFrom out (first + 1) last name →
+    IsFrom out first last name
+later out first last name h =
+    let least : first + 1 ≤ h.lane = h.least in
+    record { lane = h.lane; least = omega arith; within = h.within; is = h.is }
 
-captures_named : (out : List ℕ) (first last : ℕ) (given : List Given) (verdicts : List (List Verdict)) (name : List ℕ) → first + length given ≤ last → IsNamed (capture_files out first given verdicts) name → IsFrom out first last name
+captures_named : (out : List ℕ) (first last : ℕ) (given : List Given) (verdicts : List (List Verdict))
+    (name : List ℕ) → first + length given ≤ last → IsNamed (capture_files out first given verdicts) name →
+    IsFrom out first last name
 captures_named out first last [] verdicts name fits h = absurd h
 captures_named out first last (g ∷ given) [] name fits h = absurd h
-captures_named out first last (g ∷ given) (v ∷ verdicts) name fits (inl e) = record { lane = first; least = omega arith; within = omega arith; is = e }
+captures_named out first last (g ∷ given) (v ∷ verdicts) name fits (inl e) =
+    record { lane = first; least = omega arith; within = omega arith; is = e }
 captures_named out first last (g ∷ given) (v ∷ verdicts) name fits (inr h) =
     later out first last name (captures_named out (first + 1) last given verdicts name (omega arith) h)
 
 -- a file that is no capture's comes behind captures
-captures_apart : (out : List ℕ) (first last : ℕ) (given : List Given) (verdicts : List (List Verdict)) (tail : List File) → first + length given ≤ last → last < 2 ^ 64 → AreApart tail → ((lane : ℕ) → ¬ IsNamed tail (capture_name out lane)) → AreApart (capture_files out first given verdicts ++ tail)
+captures_apart : (out : List ℕ) (first last : ℕ) (given : List Given) (verdicts : List (List Verdict))
+    (tail : List File) → first + length given ≤ last → last < 2 ^ 64 → AreApart tail →
+    ((lane : ℕ) → ¬ IsNamed tail (capture_name out lane)) → AreApart (capture_files out first given verdicts ++ tail)
 captures_apart out first last [] verdicts tail fits few apart none = apart
 captures_apart out first last (g ∷ given) [] tail fits few apart none = apart
 captures_apart out first last (g ∷ given) (v ∷ verdicts) tail fits few apart none = (
   λ h. elim (named-append (capture_files out (first + 1) given verdicts) tail (capture_name out first) h) [
     | inl front ↦
-        let there : IsFrom out (first + 1) last (capture_name out first) = captures_named out (first + 1) last given verdicts (capture_name out first) (omega arith) front in
+        let there : IsFrom out (first + 1) last (capture_name out first) =
+        captures_named out (first + 1) last given verdicts (capture_name out first) (omega arith) front in
         let least : first + 1 ≤ there.lane = there.least in
         let within : there.lane < last = there.within in
         let same : first ≡ there.lane = lanes_differ out first there.lane (omega arith) (omega arith) there.is in
@@ -120,31 +135,77 @@ captures_apart out first last (g ∷ given) (v ∷ verdicts) tail fits few apart
 -- the files behind the captures
 abbrev last_files : List ℕ → List ℕ → List ℕ → List ℕ → List File
 last_files out verdicts journal summary =
-    record { name = verdicts_name out; text = verdicts } ∷ record { name = journal_name out; text = journal } ∷ record { name = summary_name; text = summary } ∷ []
+    record { name = verdicts_name out; text = verdicts } ∷ record { name = journal_name out; text = journal } ∷
+    record { name = summary_name; text = summary } ∷ []
 
 tail_apart : (out : List ℕ) (verdicts journal summary : List ℕ) → AreApart (last_files out verdicts journal summary)
 tail_apart out verdicts journal summary = (
-  λ h. elim h [ inl e ↦ verdicts_journal out e | inr rest ↦ elim rest [ inl e ↦ verdicts_summary out e | inr none ↦ none ] ],
+  λ h. elim h [
+    | inl e ↦ verdicts_journal out e
+    | inr rest ↦ elim rest
+        [ inl e ↦ verdicts_summary out e | inr none ↦ none ]
+  ],
   (λ h. elim h [ inl e ↦ journal_summary out e | inr none ↦ none ], (λ h. h, tt)),
 )
 
-no_capture : (out : List ℕ) (verdicts journal summary : List ℕ) (lane : ℕ) → ¬ IsNamed (last_files out verdicts journal summary) (capture_name out lane)
+no_capture : (out : List ℕ) (verdicts journal summary : List ℕ) (lane : ℕ) →
+    ¬ IsNamed (last_files out verdicts journal summary) (capture_name out lane)
 no_capture out verdicts journal summary lane (inl e) = capture_verdicts out lane e
 no_capture out verdicts journal summary lane (inr (inl e)) = capture_journal out lane e
 no_capture out verdicts journal summary lane (inr (inr (inl e))) = capture_summary out lane e
 no_capture out verdicts journal summary lane (inr (inr (inr none))) = none
 
 -- the files of a run have names that differ
-pub files_apart : (out : List ℕ) (given : List Given) (verdicts : List (List Verdict)) (journal : List Entry) → length given ≤ 32 → AreApart (files_of out given verdicts journal)
+pub files_apart : (out : List ℕ) (given : List Given) (verdicts : List (List Verdict)) (journal : List Entry) →
+    length given ≤ 32 → AreApart (files_of out given verdicts journal)
 files_apart out given verdicts journal few =
-    captures_apart out 0 (length given) given verdicts (last_files out (verdicts_text verdicts) (journal_text journal) (summary_text verdicts journal)) (omega arith) (omega arith)
-    (tail_apart out (verdicts_text verdicts) (journal_text journal) (summary_text verdicts journal)) (no_capture out (verdicts_text verdicts) (journal_text journal) (summary_text verdicts journal))
+    captures_apart out 0 (length given) given verdicts
+    (last_files out (verdicts_text verdicts) (journal_text journal) (summary_text verdicts journal))
+    (omega arith) (omega arith)
+    (tail_apart out (verdicts_text verdicts) (journal_text journal) (summary_text verdicts journal))
+    (no_capture out (verdicts_text verdicts) (journal_text journal) (summary_text verdicts journal))
 
--- and they are the outputs
-pub named_output : (out : List ℕ) (given : List Given) (verdicts : List (List Verdict)) (journal : List Entry) (name : List ℕ) → IsNamed (files_of out given verdicts journal) name → IsOutput out (length given) name
-named_output out given verdicts journal name h = elim (named-append (capture_files out 0 given verdicts) (last_files out (verdicts_text verdicts) (journal_text journal) (summary_text verdicts journal)) name h) [
-  | inl front ↦
-      let there : IsFrom out 0 (length given) name = captures_named out 0 (length given) given verdicts name (omega arith) front in
-      inl (record { lane = there.lane; within = there.within; is = there.is })
-  | inr back ↦ elim back [ inl e ↦ inr (inl e) | inr rest ↦ elim rest [ inl e ↦ inr (inr (inl e)) | inr last ↦ elim last [ inl e ↦ inr (inr (inr e)) | inr none ↦ absurd none ] ] ]
-]
+-- a name of one list or the other is one of both
+pub among_front : (names more : List (List ℕ)) (name : List ℕ) → IsAmong names name → IsAmong (names ++ more) name
+among_front [] more name h = absurd h
+among_front (other ∷ names) more name (inl e) = inl e
+among_front (other ∷ names) more name (inr h) = inr (among_front names more name h)
+
+pub among_back : (names more : List (List ℕ)) (name : List ℕ) → IsAmong more name → IsAmong (names ++ more) name
+among_back [] more name h = h
+among_back (other ∷ names) more name h = inr (among_back names more name h)
+
+some_more : (n : ℕ) → suc n ≡ 0 → ⊥
+some_more n e = omega arith
+
+suc_same : (m n : ℕ) → suc m ≡ suc n → m ≡ n
+suc_same m n e = omega arith
+
+-- an output capture has the name of one
+captures_among : (out : List ℕ) (first : ℕ) (given : List Given) (verdicts : List (List Verdict))
+    (captures : List (List ℕ)) (name : List ℕ) →
+    length given ≡ length captures → IsNamed (capture_files out first given verdicts) name →
+    IsAmong (capture_names out first captures) name
+captures_among out first [] verdicts captures name same h = absurd h
+captures_among out first (g ∷ given) [] captures name same h = absurd h
+captures_among out first (g ∷ given) (v ∷ verdicts) [] name same h = absurd (some_more (length given) same)
+captures_among out first (g ∷ given) (v ∷ verdicts) (c ∷ captures) name same (inl e) = inl e
+captures_among out first (g ∷ given) (v ∷ verdicts) (c ∷ captures) name same (inr h) =
+    inr (captures_among out (first + 1) given verdicts captures name
+    (suc_same (length given) (length captures) same) h)
+
+-- the files of a run are the outputs of the command
+pub named_output : (words : PlanWords) (given : List Given) (verdicts : List (List Verdict)) (journal : List Entry)
+    (name : List ℕ) →
+    length given ≡ length words.captures → IsNamed (files_of words.out given verdicts journal) name →
+    IsOutput (Step words) name
+named_output words given verdicts journal name same h =
+    let captures : List (List ℕ) = capture_names words.out 0 words.captures in
+    let tail : List (List ℕ) = verdicts_name words.out ∷ journal_name words.out ∷ summary_name ∷ [] in
+    elim (named-append (capture_files words.out 0 given verdicts)
+    (last_files words.out (verdicts_text verdicts) (journal_text journal) (summary_text verdicts journal))
+    name h) [
+      | inl front ↦ among_front captures tail name (captures_among words.out 0 given verdicts words.captures name
+          same front)
+      | inr back ↦ among_back captures tail name back
+    ]

@@ -1,6 +1,9 @@
 pub mod Apart
 pub mod Writing
-pub mod Reading
-pub mod Runs
 pub mod Passing
+pub mod Runs
+pub mod Reading
+pub mod AllRead
+pub mod ByKind
+pub mod Answering
 pub mod Ending

@@ -13,4 +13,3 @@ code_of status.ReadFault = 5
 code_of status.WriteFault = 6
 code_of status.NoMemory = 7
 code_of (status.OverLimit limit count) = 10
-code_of (status.NotBuilt file) = 11

@@ -12,14 +12,16 @@ use Rattle.slnf_journal.specs.Summary.{summary_text}
 use Rattle.slnf_top.specs.declared.inputs.Given.{Given}
 use Rattle.slnf_top.specs.declared.outputs.File.{File}
 use Rattle.slnf_top.specs.Names.{capture_name, verdicts_name, journal_name, summary_name}
-use Rattle.slnf_top.specs.Effects.{Holds}
+use Rattle.slnf_top.specs.Effects.{IsAmong}
+use Rattle.slnf_top.specs.Reached.{Holds}
 
 -- the output captures of these lanes, of which the first has this number
 abbrev pub capture_files : List ℕ → ℕ → List Given → List (List Verdict) → List File
 capture_files out lane [] verdicts = []
 capture_files out lane (given ∷ more) [] = []
 capture_files out lane (given ∷ more) (verdicts ∷ others) =
-    record { name = capture_name out lane; text = output_of given.bytes given.capture verdicts } ∷ capture_files out (lane + 1) more others
+    record { name = capture_name out lane; text = output_of given.bytes given.capture verdicts }
+    ∷ capture_files out (lane + 1) more others
 
 -- the files of a run, in the order in which they are written
 abbrev pub files_of : List ℕ → List Given → List (List Verdict) → List Entry → List File
@@ -32,22 +34,23 @@ files_of out given verdicts journal =
 -- each of these files holds its text, where the shelf tells what it held
 abbrev pub HoldFiles : List File → Holds → Holds → Type 0
 HoldFiles [] held holds = Unit {0}
-HoldFiles (file ∷ files) held holds = (holds file.name ≡ set_to file.text (held file.name)) × HoldFiles files held holds
+HoldFiles (file ∷ files) held holds =
+    (holds file.name ≡ set_to file.text (held file.name)) × HoldFiles files held holds
+
+-- the names of these files
+abbrev pub names_of : List File → List (List ℕ)
+names_of [] = []
+names_of (file ∷ files) = file.name ∷ names_of files
 
 -- the name is that of one of these files
 abbrev pub IsNamed : List File → List ℕ → Type 0
-IsNamed [] name = ⊥
-IsNamed (file ∷ files) name = (name ≡ file.name) ⊎ IsNamed files name
+IsNamed files name = IsAmong (names_of files) name
 
 -- the begins and appends of these files
 abbrev pub WritesFiles : List File → Call → List ℕ → Type 0
 WritesFiles files Read name = ⊥
 WritesFiles files Begin name = IsNamed files name
 WritesFiles files Append name = IsNamed files name
-
--- one of them met a fault
-abbrev pub FileRose : List File → Faults → Faults → Type 0
-FileRose files before now = (name : List ℕ) × IsNamed files name × (Rose Begin name before now ⊎ Rose Append name before now)
 
 -- One file was written.
 pub record WroteOne (file : File) (held holds : Holds) : Type 0 where
@@ -69,4 +72,5 @@ pub record WroteSome (file : File) (before now : Faults) (held holds : Holds) : 
 abbrev pub StoppedAt : List File → Faults → Faults → Holds → Holds → Type 0
 StoppedAt [] before now held holds = ⊥
 StoppedAt (file ∷ files) before now held holds =
-    WroteSome file before now held holds ⊎ ((middle : Holds) × WroteOne file held middle × StoppedAt files before now middle holds)
+    WroteSome file before now held holds
+    ⊎ ((middle : Holds) × WroteOne file held middle × StoppedAt files before now middle holds)

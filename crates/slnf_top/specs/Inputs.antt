@@ -1,22 +1,22 @@
--- Captures that were read, with their bytes and their lanes.
-use Rattle.std.specs.Prelude.{◌≡◌, ℕ, ◌≤◌, Some, None, List, [], ◌∷◌, length, map, Ok, All, IfSome}
+-- A plan and captures that were read, with the captures' bytes and their lanes.
+use Rattle.std.specs.Prelude.{◌≡◌, ℕ, ◌≤◌, Some, List, [], ◌∷◌, length, Ok, All, IfSome}
 use Rattle.slnf_base.specs.declared.packets.Verdict.{Verdict}
-use Rattle.slnf_base.specs.declared.plans.Service.{Service}
 use Rattle.slnf_pcap.specs.Captures.{capture_of, LiesIn}
 use Rattle.slnf_plan.specs.declared.plan.Plan.{Plan}
-use Rattle.slnf_plan.specs.declared.plan.FunctionPlan.TheVariants.{Balancer}
 use Rattle.slnf_plan.specs.Plain.{plain}
 use Rattle.slnf_plan.specs.Reading.{plan_of_bytes}
 use Rattle.slnf_flight.specs.declared.lanes.Lane.{Lane}
 use Rattle.slnf_flight.specs.Captures.{packets_of}
 use Rattle.slnf_flight.specs.Lanes.{packet_count}
 use Rattle.slnf_top.specs.declared.inputs.Given.{Given}
-use Rattle.slnf_top.specs.declared.inputs.Input.{Input}
+use Rattle.slnf_top.specs.declared.inputs.NextLane.{NextLane}
+use Rattle.slnf_top.specs.declared.inputs.Captures.{Captures}
 use Rattle.slnf_top.specs.declared.inputs.Inputs.{Inputs}
 use Rattle.slnf_top.specs.declared.inputs.Tally.{Tally}
 use Rattle.slnf_top.specs.Limits.{plan_limit, captures_limit, packets_limit}
-use Rattle.slnf_top.specs.Answer.{with_capture, capture_reading, captures_answer, no_tally}
-use Rattle.slnf_top.specs.Effects.{Holds}
+use Rattle.slnf_top.specs.Words.{PlanWords}
+use Rattle.slnf_top.specs.Readings.{PlanFile, captures_in, with_capture, capture_reading, no_tally}
+use Rattle.slnf_top.specs.Reached.{Holds, HavePassed}
 
 -- A capture is that of its bytes, in which its header and its records lie.
 pub record IsGiven (given : Given) : Type 0 where
@@ -41,18 +41,15 @@ abbrev pub AreTold : Holds → List (List ℕ) → List Given → Type 0
 AreTold held [] [] = Unit {0}
 AreTold held [] (given ∷ more) = ⊥
 AreTold held (name ∷ names) [] = ⊥
-AreTold held (name ∷ names) (given ∷ more) = IfSome (held name) (λ bytes. given.bytes ≡ bytes) × AreTold held names more
+AreTold held (name ∷ names) (given ∷ more) =
+    IfSome (held name) (λ bytes. given.bytes ≡ bytes) × AreTold held names more
 
 -- the shelf tells these bytes under these names
 abbrev pub AreHeld : Holds → List (List ℕ) → List (List ℕ) → Type 0
 AreHeld held [] [] = Unit {0}
-AreHeld held [] (bytes ∷ captures) = ⊥
+AreHeld held [] (bytes ∷ more) = ⊥
 AreHeld held (name ∷ names) [] = ⊥
-AreHeld held (name ∷ names) (bytes ∷ captures) = (held name ≡ Some bytes) × AreHeld held names captures
-
--- the bytes of captures
-abbrev pub bytes_of : List Given → List (List ℕ)
-bytes_of given = map (λ g. g.bytes) given
+AreHeld held (name ∷ names) (bytes ∷ more) = (held name ≡ Some bytes) × AreHeld held names more
 
 -- a verdict for each packet of each capture
 abbrev pub AreSized : List Given → List (List Verdict) → Type 0
@@ -65,12 +62,6 @@ AreSized (given ∷ more) (verdicts ∷ others) = (length verdicts ≡ length gi
 abbrev pub AreGiven : List Given → Type 0
 AreGiven [] = Unit {0}
 AreGiven (given ∷ more) = IsGiven given × AreGiven more
-
--- A plan that is built: a balancer with one packet a batch.
-pub record IsBuilt (plan : Plan) : Type 0 where
-  pub service : Service
-  pub function : plan.function ≡ Balancer service
-  pub one_by_one : plan.batch ≡ 1
 
 -- The plan is that of these bytes, within limit 1.
 pub record IsPlanOf (plan : Plan) (bytes : List ℕ) : Type 0 where
@@ -85,16 +76,32 @@ pub record IsTally (tally : Tally) (lanes : List Lane) : Type 0 where
   pub few : tally.packets ≤ packets_limit
 
 -- The next capture was read behind those of the tally: it passes, and its tally is the next one.
-pub record IsNext (service : Service) (tally : Tally) (input : Input) : Type 0 where
-  pub read : IsRead input.given input.lane
-  pub passed : capture_reading service tally input.given.bytes ≡ Ok input.tally
-  pub counted : input.tally ≡ with_capture tally input.given.bytes input.given.capture
-  pub bytes : input.tally.bytes ≤ captures_limit
-  pub packets : input.tally.packets ≤ packets_limit
+pub record IsNext (tally : Tally) (next : NextLane) : Type 0 where
+  pub read : IsRead next.given next.lane
+  pub passed : capture_reading tally next.given.bytes ≡ Ok next.tally
+  pub counted : next.tally ≡ with_capture tally next.given.bytes next.given.capture
+  pub bytes : next.tally.bytes ≤ captures_limit
+  pub packets : next.tally.packets ≤ packets_limit
 
 -- All captures were read: they are what the shelf tells, and none is refused.
-pub record AreInputs (service : Service) (held : Holds) (names : List (List ℕ)) (inputs : Inputs) : Type 0 where
-  pub read : AreRead inputs.given inputs.lanes
-  pub told : AreTold held names inputs.given
-  pub tally : IsTally inputs.tally inputs.lanes
-  pub passed : (captures : List (List ℕ)) → AreHeld held names captures → captures_answer service no_tally captures ≡ None
+pub record AreCaptures (held : Holds) (names : List (List ℕ)) (captures : Captures) : Type 0 where
+  pub read : AreRead captures.given captures.lanes
+  pub told : AreTold held names captures.given
+  pub tally : IsTally captures.tally captures.lanes
+  pub passed : HavePassed held (captures_in names) no_tally captures.tally
+
+-- What a run works on: the plan and the captures that the inputs hold, where the shelf tells them, and the lanes of
+-- these captures.
+pub record WorksOn (words : PlanWords) (held : Holds) (plan : Plan) (given : List Given) (lanes : List Lane)
+    : Type 0 where
+  pub is_plan : IfSome (held words.plan) (IsPlanOf plan)
+  pub are_told : AreTold held words.captures given
+  pub are_read : AreRead given lanes
+
+-- The plan of this name and the captures of these were read.
+pub record AreInputs (plan : List ℕ) (names : List (List ℕ)) (held : Holds) (inputs : Inputs) : Type 0 where
+  pub is_plan : IfSome (held plan) (IsPlanOf inputs.plan)
+  pub are_told : AreTold held names inputs.captures.given
+  pub are_read : AreRead inputs.captures.given inputs.captures.lanes
+  pub tally : IsTally inputs.captures.tally inputs.captures.lanes
+  pub passed : HavePassed held (PlanFile plan ∷ captures_in names) no_tally inputs.captures.tally

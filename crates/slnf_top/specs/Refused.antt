@@ -1,59 +1,80 @@
 -- Why a step of the command is refused.
-use Rattle.std.specs.Prelude.{◌≡◌, ◌≢◌, ℕ, ◌+◌, ◌<◌, Option, Some, List, length, Result, Err, IfSome}
-use Rattle.slnf_base.specs.declared.plans.Service.{Service}
+use Rattle.std.specs.Prelude.{◌≡◌, ◌≢◌, ◌⊎◌, ℕ, ◌+◌, ◌<◌, Option, List, length, Err, IfSome}
+use Rattle.slnf_pcap.specs.declared.errors.PcapError.{PcapError}
+use Rattle.slnf_pcap.specs.declared.errors.PcapError.TheVariants.{NoMemory as PcapNoMemory}
+use Rattle.slnf_pcap.specs.declared.capture.Capture.{Capture}
+use Rattle.slnf_plan.specs.declared.error.PlanError.{PlanError}
+use Rattle.slnf_plan.specs.declared.error.PlanError.TheVariants.{NoMemory as PlanNoMemory}
 use Rattle.slnf_shelf.specs.Shelf.{Faults}
 use Rattle.slnf_top.specs.declared.statuses.Status.{Status}
 use Rattle.slnf_top.specs.declared.statuses.Status.TheVariants as status
+use Rattle.slnf_top.specs.Kinds.{Kind, Whole, Formless, Refusing, Unread, Unwritten, Wanting, kind_of}
 use Rattle.slnf_top.specs.declared.inputs.Tally.{Tally}
-use Rattle.slnf_top.specs.Answer.{captures_answer}
-use Rattle.slnf_top.specs.Effects.{Holds, CaptureRose}
-use Rattle.slnf_top.specs.Inputs.{AreHeld}
+use Rattle.slnf_top.specs.Readings.{Input, reading_of, plan_reading, capture_reading, packets_reading}
+use Rattle.slnf_top.specs.Reached.{Holds, MayRefuse, IsUnread, IsRefused}
 use Rattle.slnf_top.specs.declared.outputs.File.{File}
 use Rattle.slnf_top.specs.Files.{WroteSome, StoppedAt}
 
--- A read was refused: its file met a fault (`rose`), memory was wanting, or the status is one that the bytes give.
+-- a read was refused: its file met a fault (`rose`), memory was wanting, or the bytes give the status (`gives`)
+abbrev pub RefusesBy : Type 0 → Type 0 → Kind → Type 0
+RefusesBy rose gives Whole = ⊥
+RefusesBy rose gives Formless = ⊥
+RefusesBy rose gives Refusing = gives
+RefusesBy rose gives Unread = rose
+RefusesBy rose gives Unwritten = ⊥
+RefusesBy rose gives Wanting = Unit {0}
+
 abbrev pub Refuses : Type 0 → (Status → Type 0) → Status → Type 0
-Refuses rose gives status.Ok = ⊥
-Refuses rose gives status.Left = ⊥
-Refuses rose gives status.Usage = ⊥
-Refuses rose gives (status.PlanBad error) = gives (status.PlanBad error)
-Refuses rose gives (status.CaptureBad lane error) = gives (status.CaptureBad lane error)
-Refuses rose gives status.ReadFault = rose
-Refuses rose gives status.WriteFault = ⊥
-Refuses rose gives status.NoMemory = Unit {0}
-Refuses rose gives (status.OverLimit limit count) = gives (status.OverLimit limit count)
-Refuses rose gives (status.NotBuilt file) = gives (status.NotBuilt file)
+Refuses rose gives ended = RefusesBy rose (gives ended) (kind_of ended)
+
+-- the input was refused, behind this tally
+abbrev pub RefusesOne : Input → Tally → Option (List ℕ) → Status → Type 0
+RefusesOne input tally held refusal =
+    MayRefuse input tally refusal × IfSome held (λ bytes. reading_of input tally bytes ≡ Err refusal)
+
+-- these bytes of a plan within its limit are refused
+abbrev pub IsBadPlan : List ℕ → Status → Type 0
+IsBadPlan bytes refusal =
+    ((error : PlanError) × (error ≢ PlanNoMemory) × (refusal ≡ status.PlanBad error))
+    × (plan_reading bytes ≡ Err refusal)
+
+-- these bytes of a capture within its limit are refused, behind this tally
+abbrev pub IsBadCapture : Tally → List ℕ → Status → Type 0
+IsBadCapture tally bytes refusal =
+    (((error : PcapError) × (error ≢ PcapNoMemory) × (refusal ≡ status.CaptureBad tally.lanes error))
+    ⊎ ((count : ℕ) × (refusal ≡ status.OverLimit 3 count)) ⊎ ((count : ℕ) × (refusal ≡ status.OverLimit 4 count)))
+    × (capture_reading tally bytes ≡ Err refusal)
+
+-- there are too many packets with this capture, behind this tally
+abbrev pub AreTooMany : Tally → List ℕ → Capture → Status → Type 0
+AreTooMany tally bytes capture refusal =
+    ((count : ℕ) × (refusal ≡ status.OverLimit 4 count)) × (packets_reading tally bytes capture ≡ Err refusal)
+
+-- one of these inputs was refused
+abbrev pub RefusesInputs : Holds → List Input → Faults → Faults → Status → Type 0
+RefusesInputs held inputs before now ended =
+    Refuses (IsUnread held inputs before now) (IsRefused held inputs) ended
 
 -- no count of faults changed, unless the status is this fault
 abbrev pub StaysUnless : Status → Faults → Faults → Status → Type 0
 StaysUnless fault before now ended = ended ≢ fault → now ≡ before
 
--- the reading of these bytes gives the status
-abbrev pub Gives : {T : Type 0} → (List ℕ → Result T Status) → Option (List ℕ) → Status → Type 0
-Gives reading held refusal = IfSome held (λ bytes. reading bytes ≡ Err refusal)
-
 -- the status says that the file is over this limit, and it is
 abbrev pub IsOver : ℕ → ℕ → Option (List ℕ) → Status → Type 0
-IsOver limit most held refusal = (refusal ≡ status.OverLimit limit (most + 1)) × IfSome held (λ bytes. most < length bytes)
+IsOver limit most held refusal =
+    (refusal ≡ status.OverLimit limit (most + 1)) × IfSome held (λ bytes. most < length bytes)
 
--- one of these captures was refused, which come behind the captures of this tally
-abbrev pub RefusesCaptures : Service → Tally → List (List ℕ) → Faults → Faults → Holds → Status → Type 0
-RefusesCaptures service tally names before now held refusal =
-    Refuses (CaptureRose service tally names before now held)
-    (λ s. (captures : List (List ℕ)) → AreHeld held names captures → captures_answer service tally captures ≡ Some s) refusal
+-- writing stopped: a begin or an append met a fault, or memory was wanting
+abbrev pub StopsBy : Type 0 → Kind → Type 0
+StopsBy rose Whole = ⊥
+StopsBy rose Formless = ⊥
+StopsBy rose Refusing = ⊥
+StopsBy rose Unread = ⊥
+StopsBy rose Unwritten = rose
+StopsBy rose Wanting = Unit {0}
 
--- Writing stopped: a begin or an append met a fault, or memory was wanting.
 abbrev pub StopsWriting : Type 0 → Status → Type 0
-StopsWriting rose status.Ok = ⊥
-StopsWriting rose status.Left = ⊥
-StopsWriting rose status.Usage = ⊥
-StopsWriting rose (status.PlanBad error) = ⊥
-StopsWriting rose (status.CaptureBad lane error) = ⊥
-StopsWriting rose status.ReadFault = ⊥
-StopsWriting rose status.WriteFault = rose
-StopsWriting rose status.NoMemory = Unit {0}
-StopsWriting rose (status.OverLimit limit count) = ⊥
-StopsWriting rose (status.NotBuilt file) = ⊥
+StopsWriting rose ended = StopsBy rose (kind_of ended)
 
 -- a fault of writing stopped it within this file, or at one of these files
 abbrev pub StopsWithin : File → Faults → Faults → Holds → Holds → Status → Type 0

@@ -12,23 +12,27 @@ is_proper (first ∷ rest) = not (first == 45)
 abbrev pub are_captures : List (List ℕ) → Bool
 are_captures words = nat_le 1 (length words) && nat_le (length words) 32 && list_all is_proper words
 
--- what `step PLAN OUT IN..` names
-pub record Step : Type 0 where
+-- what the words PLAN OUT IN.. name
+pub record PlanWords : Type 0 where
   pub plan : List ℕ
   pub out : List ℕ
   pub captures : List (List ℕ)
 
--- these words, where they are of the form of `step`
-abbrev pub step_of : List ℕ → List ℕ → List ℕ → List (List ℕ) → Option Step
-step_of command plan out captures =
-    if bytes_eq command (codes "step") && is_proper plan && is_proper out && are_captures captures
-    then Some (record { plan = plan; out = out; captures = captures })
+-- A command, with what its words name.
+pub data Command : Type 0 where
+  Step : PlanWords → Command
+
+-- the command that has this name, where these words are of the form PLAN OUT IN..
+abbrev pub command_named : List ℕ → List ℕ → List ℕ → List (List ℕ) → Option Command
+command_named name plan out captures =
+    if bytes_eq name (codes "step") && is_proper plan && is_proper out && are_captures captures
+    then Some (Step (record { plan = plan; out = out; captures = captures }))
     else None
 
--- The words of `step`, where they are of its form: the command, the plan, the front of the outputs' names, and 1 to 32
--- captures, each a word that may name a file.
-abbrev pub step_words : List (List ℕ) → Option Step
-step_words [] = None
-step_words (command ∷ []) = None
-step_words (command ∷ plan ∷ []) = None
-step_words (command ∷ plan ∷ out ∷ captures) = step_of command plan out captures
+-- The command of the words, where they are of its form: `step`, the plan, the front of the outputs' names, and 1 to
+-- 32 captures, each a word that may name a file.
+abbrev pub command_of : List (List ℕ) → Option Command
+command_of [] = None
+command_of (name ∷ []) = None
+command_of (name ∷ plan ∷ []) = None
+command_of (name ∷ plan ∷ out ∷ captures) = command_named name plan out captures

@@ -1,121 +1,123 @@
 ghost use Rattle.std.specs.Prelude.{◌≡◌, ◌≢◌, ◌≤◌, ◌↔◌, ℕ, List, length, map, None, Some, string_bytes};
+ghost use Rattle.slnf_pcap.specs.declared.errors.PcapError.TheVariants.{NoMemory as PcapNoMemory};
+ghost use Rattle.slnf_plan.specs.declared.error.PlanError.TheVariants.{NoMemory as PlanNoMemory};
 ghost use Rattle.slnf_shelf.specs.Shelf.{Moves, SameFiles};
-ghost use Rattle.slnf_plan.specs.declared.plan.FunctionPlan.TheVariants.{Balancer};
-ghost use Rattle.slnf_top.specs.Words.{Step, step_words};
-ghost use Rattle.slnf_top.specs.Effects.{IsOutput, Reads, Calls, ReadRose, WriteRose, NoCalls};
-ghost use Rattle.slnf_top.specs.Answer.{answer};
-ghost use Rattle.slnf_top.specs.Inputs.{AreHeld, IsBuilt};
-ghost use Rattle.slnf_top.specs.Outcome.{IsAnswer, MayWrite, Ended, EndedUnder};
-ghost use Rattle.slnf_top.specs.Written.{IsDone, IsWritten, IsStopped, status_of};
+ghost use Rattle.slnf_top.specs.declared.statuses.Status.TheVariants as status;
+ghost use Rattle.slnf_top.specs.Words.{Command, Step, command_of};
+ghost use Rattle.slnf_top.specs.Kinds.{Whole, Refusing, kind_of, HasRead, MayWrite};
+ghost use Rattle.slnf_top.specs.Readings.{inputs_of, no_tally, plan_reading, first_refusal};
+ghost use Rattle.slnf_top.specs.Reached.{IsUnread, IsRefused, AllPassed, IsPlanOfCommand, FollowsPlan};
+ghost use Rattle.slnf_top.specs.Effects.{input_names, IsOutput, Reads, Calls, WriteRose, NoCalls};
+ghost use Rattle.slnf_top.specs.Inputs.{AreHeld};
+ghost use Rattle.slnf_top.specs.Written.{WroteAll, WroteFront, status_of};
+ghost use Rattle.slnf_top.specs.Outcome.{Ended, IsComplete};
 
-use crate::inputs::{read_captures, read_plan_file};
+use crate::inputs::read_inputs;
 use crate::outputs::write_files;
 use crate::statuses::Status;
 use crate::steps::run_inputs;
-use crate::words::{StepWords, step_words};
-use slnf_base::Service;
-use slnf_plan::{FunctionPlan, Plan};
+use crate::words::{PlanWords, step_words};
 use slnf_shelf::Shelf;
 use std::alloc::Global;
+use std::hash::RandomState;
 
-/// Runs the command of the words, which don't hold the program's name, on the shelf's files, and says how it ended. It
-/// always returns.
+/// Runs the command of the words, which don't hold the program's name, on the shelf's files, and says how it ended.
+/// It always returns. The store's maps are hashed with `state`, which no clause speaks of.
 ///
-/// `step PLAN OUT IN..` reads the plan and its 1 to 32 captures whole, the lanes 0, 1 and so on, and runs the plan over
-/// them by its written schedule. It writes `OUT.0.pcap` and so on for each lane in order, then `OUT.verdicts`,
+/// `step PLAN OUT IN..` reads the plan and its 1 to 32 captures whole, the lanes 0, 1 and so on, and runs the plan
+/// over them by its written schedule. It writes `OUT.0.pcap` and so on for each lane in order, then `OUT.verdicts`,
 /// `OUT.journal`, and the summary line to `-`. One IN may stand twice, and an output may have an input's name.
-pub fn top_plain<S: Shelf>(alloc: Global, words: &[String], shelf: &mut S) -> Status
+pub fn top_plain<S: Shelf>(
+    alloc: Global,
+    state: RandomState,
+    words: &[String],
+    shelf: &mut S,
+) -> Status
     // The words are of no form.
-    ensures usage { (result ≡ Status.Usage) ↔ (step_words (map string_bytes words.now) ≡ None) }
+    ensures usage { (result ≡ Status.Usage) ↔ (command_of (map string_bytes words.now) ≡ None) }
     ensures usage_stays { result ≡ Status.Usage
-        → Moves NoCalls (S.faults shelf.old) (S.faults shelf.new) × SameFiles (S.holds shelf.old) (S.holds shelf.new) }
+        → Moves NoCalls (S.faults shelf.old) (S.faults shelf.new)
+        × SameFiles (S.holds shelf.old) (S.holds shelf.new) }
 
     // Which files are read and written, and which faults there were.
-    ensures counts { (step : Step) → step_words (map string_bytes words.now) ≡ Some step
-        → Moves (Calls step) (S.faults shelf.old) (S.faults shelf.new) }
-    ensures others { (step : Step) → step_words (map string_bytes words.now) ≡ Some step
-        → (name : List ℕ) → ¬ IsOutput step.out (length step.captures) name → S.holds shelf.new name ≡ S.holds shelf.old name }
-    ensures read_fault { (step : Step) → step_words (map string_bytes words.now) ≡ Some step
-        → result ≡ Status.ReadFault → ReadRose step (S.faults shelf.old) (S.faults shelf.new) (S.holds shelf.old) }
-    ensures write_fault { (step : Step) → step_words (map string_bytes words.now) ≡ Some step
-        → result ≡ Status.WriteFault → WriteRose step.out (length step.captures) (S.faults shelf.old) (S.faults shelf.new) }
-    ensures no_fault { result ≢ Status.ReadFault → result ≢ Status.WriteFault → S.faults shelf.new ≡ S.faults shelf.old }
+    ensures counts { (command : Command) → command_of (map string_bytes words.now) ≡ Some command
+        → Moves (Calls command) (S.faults shelf.old) (S.faults shelf.new) }
+    ensures others { (command : Command) → command_of (map string_bytes words.now) ≡ Some command
+        → (name : List ℕ) → ¬ IsOutput command name → S.holds shelf.new name ≡ S.holds shelf.old name }
+    ensures read_fault { (command : Command) → command_of (map string_bytes words.now) ≡ Some command
+        → result ≡ Status.ReadFault
+        → IsUnread (S.holds shelf.old) (inputs_of command) (S.faults shelf.old) (S.faults shelf.new) }
+    ensures write_fault { (command : Command) → command_of (map string_bytes words.now) ≡ Some command
+        → result ≡ Status.WriteFault → WriteRose command (S.faults shelf.old) (S.faults shelf.new) }
+    ensures no_fault { result ≢ Status.ReadFault → result ≢ Status.WriteFault
+        → S.faults shelf.new ≡ S.faults shelf.old }
 
     // Before the writing nothing is begun.
-    ensures nothing_begun { (step : Step) → step_words (map string_bytes words.now) ≡ Some step → ¬ MayWrite result
-        → Moves (Reads step) (S.faults shelf.old) (S.faults shelf.new) × SameFiles (S.holds shelf.old) (S.holds shelf.new) }
+    ensures nothing_begun { (command : Command) → command_of (map string_bytes words.now) ≡ Some command
+        → ¬ MayWrite (kind_of result)
+        → Moves (Reads command) (S.faults shelf.old) (S.faults shelf.new)
+        × SameFiles (S.holds shelf.old) (S.holds shelf.new) }
 
-    // Each other answer is that of the files' bytes, where the shelf tells them.
-    ensures answered { (step : Step) (plan : List ℕ) (captures : List (List ℕ)) → step_words (map string_bytes words.now) ≡ Some step
-        → S.holds shelf.old step.plan ≡ Some plan → AreHeld (S.holds shelf.old) step.captures captures
-        → IsAnswer result (answer plan captures) }
+    // A refusal is that of the first input, in order, that is refused: each one before it passed.
+    ensures reached { (command : Command) → command_of (map string_bytes words.now) ≡ Some command
+        → kind_of result ≡ Refusing → IsRefused (S.holds shelf.old) (inputs_of command) result }
+    // What is refused for a plan follows from the plan's bytes alone.
+    ensures plan_refused { (command : Command) → command_of (map string_bytes words.now) ≡ Some command
+        → (plan bytes : List ℕ) → IsPlanOfCommand command plan → S.holds shelf.old plan ≡ Some bytes
+        → FollowsPlan result (plan_reading bytes) }
+    // Where the shelf tells all inputs, a refusal is the first that their bytes give.
+    ensures first_refused { (command : Command) (bytes : List (List ℕ))
+        → command_of (map string_bytes words.now) ≡ Some command
+        → AreHeld (S.holds shelf.old) (input_names command) bytes → kind_of result ≡ Refusing
+        → first_refusal (inputs_of command) no_tally bytes ≡ Some result }
+    // No refusal carries want of memory.
+    ensures no_inner_memory { (result ≢ status.PlanBad PlanNoMemory)
+        × ((lane : ℕ) → result ≢ status.CaptureBad lane PcapNoMemory) }
+    // After Ok, Left and WriteFault each input passed.
+    ensures passed { (command : Command) → command_of (map string_bytes words.now) ≡ Some command
+        → HasRead (kind_of result) → AllPassed (S.holds shelf.old) (inputs_of command) }
+    // Where the inputs give no refusal and no call met a fault, the command does all, unless memory is wanting.
+    ensures answered { (command : Command) (bytes : List (List ℕ))
+        → command_of (map string_bytes words.now) ≡ Some command
+        → AreHeld (S.holds shelf.old) (input_names command) bytes
+        → first_refusal (inputs_of command) no_tally bytes ≡ None
+        → S.faults shelf.new ≡ S.faults shelf.old → IsComplete result }
 
-    // After Ok and Left the files hold the texts of a run, which one ordinary balancer explains.
-    ensures written { (step : Step) (plan : List ℕ) (captures : List (List ℕ)) → step_words (map string_bytes words.now) ≡ Some step
-        → S.holds shelf.old step.plan ≡ Some plan → AreHeld (S.holds shelf.old) step.captures captures → IsDone result
-        → IsWritten step plan captures result (S.holds shelf.old) (S.holds shelf.new) }
-
-    // After WriteFault the files before the one with the fault hold the texts of such a run, it holds a front of its text
-    // or what it held, and those behind it hold what they held.
-    ensures stopped { (step : Step) (plan : List ℕ) (captures : List (List ℕ)) → step_words (map string_bytes words.now) ≡ Some step
-        → S.holds shelf.old step.plan ≡ Some plan → AreHeld (S.holds shelf.old) step.captures captures → result ≡ Status.WriteFault
-        → IsStopped step plan captures (S.faults shelf.old) (S.faults shelf.new) (S.holds shelf.old) (S.holds shelf.new) }
+    // After Ok and Left the files hold the texts of a run, which one ordinary box explains: Ok where it leaves no
+    // packet, and Left where it leaves some.
+    ensures written { (command : Command) → command_of (map string_bytes words.now) ≡ Some command
+        → kind_of result ≡ Whole → WroteAll command result (S.holds shelf.old) (S.holds shelf.new) }
+    // After WriteFault the files before the one with the fault hold the texts of such a run, it holds a front of its
+    // text or what it held, and those behind it hold what they held.
+    ensures stopped { (command : Command) → command_of (map string_bytes words.now) ≡ Some command
+        → result ≡ Status.WriteFault
+        → WroteFront command (S.faults shelf.old) (S.faults shelf.new) (S.holds shelf.old) (S.holds shelf.new) }
 {
     match step_words(words) {
         None => Status::Usage,
-        Some(step) => run_step(alloc, shelf, step),
+        Some(step) => run_step(alloc, state, shelf, step),
     }
 }
 
-/// Runs `step`.
-fn run_step<S: Shelf>(alloc: Global, shelf: &mut S, step: StepWords<'_>) -> Status
-    requires { length step.captures.now ≤ 32 }
-    ensures { Ended (record { plan = step.entry.plan.now; out = step.entry.out.now; captures = map string_bytes step.entry.captures.now })
-        result (S.faults shelf.old) (S.faults shelf.new) (S.holds shelf.old) (S.holds shelf.new) }
-{
-    match read_plan_file(alloc, shelf, step.plan) {
-        Err(status) => status,
-        Ok(plan) => run_plan(alloc, shelf, step, &plan),
-    }
-}
-
-/// Runs a plan that passed.
-fn run_plan<S: Shelf>(alloc: Global, shelf: &mut S, step: StepWords<'_>, plan: &Plan) -> Status
-    requires few { length step.captures.now ≤ 32 }
-    requires built { IsBuilt plan.now }
-    ensures { (service : Service) → plan.now.function ≡ Balancer service
-        → EndedUnder plan.now service step.entry.out.now (map string_bytes step.entry.captures.now) result
-        (S.faults shelf.old) (S.faults shelf.new) (S.holds shelf.old) (S.holds shelf.new) }
-{
-    match &plan.function {
-        FunctionPlan::Balancer(service) => run_balancer(alloc, shelf, step, plan, service),
-        FunctionPlan::Nat(_) => unreachable!(),
-        FunctionPlan::Firewall {
-            inside: _,
-            rules: _,
-        } => unreachable!(),
-    }
-}
-
-/// Runs a balancer's plan: reads the captures, makes the files, and writes them.
-fn run_balancer<S: Shelf>(
+/// Runs `step`: reads its inputs, makes the files, and writes them.
+fn run_step<S: Shelf>(
     alloc: Global,
+    state: RandomState,
     shelf: &mut S,
-    step: StepWords<'_>,
-    plan: &Plan,
-    service: &Service,
+    step: PlanWords<'_>,
 ) -> Status
-    requires few { length step.captures.now ≤ 32 }
-    requires one_by_one { plan.now.batch ≡ 1 }
-    requires service { plan.now.function ≡ Balancer service.now }
-    ensures { EndedUnder plan.now service.now step.entry.out.now (map string_bytes step.entry.captures.now) result
-        (S.faults shelf.old) (S.faults shelf.new) (S.holds shelf.old) (S.holds shelf.new) }
+    requires { length step.captures.now ≤ 32 }
+    ensures { Ended (Step (record {
+      plan = step.entry.plan.now;
+      out = step.entry.out.now;
+      captures = map string_bytes step.entry.captures.now;
+    })) result (S.faults shelf.old) (S.faults shelf.new) (S.holds shelf.old) (S.holds shelf.new) }
 {
-    let inputs = match read_captures(alloc, shelf, step.captures, service) {
+    let inputs = match read_inputs(alloc, shelf, step.plan, step.captures) {
         Ok(inputs) => inputs,
         Err(status) => return status,
     };
-    let run = match run_inputs(alloc, plan, service, step.out, &inputs) {
+    let run = match run_inputs(alloc, state, step.out, &inputs) {
         Ok(run) => run,
         Err(_) => return Status::NoMemory,
     };

@@ -6,6 +6,8 @@ mod cases;
 mod commands;
 mod inputs;
 #[cfg(test)]
+mod letters;
+#[cfg(test)]
 mod limit_tests;
 mod names;
 mod outputs;

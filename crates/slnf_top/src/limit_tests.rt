@@ -5,6 +5,7 @@ ghost use Rattle.slnf_shelf.specs.Shelf.{no_faults};
 use super::*;
 use slnf_shelf::{Shelf, ShelfError};
 use std::alloc::Global;
+use std::hash::RandomState;
 use std::test::Fail as Failed;
 
 const PLAN: &[u8] =
@@ -13,8 +14,8 @@ const PLAN: &[u8] =
 const HEADER: [u8; 24] =
     *b"\xd4\xc3\xb2\xa1\x02\x00\x04\x00\x00\x00\x00\x00\x00\x00\x00\x00\x00\x00\x04\x00\x65\x00\x00\x00";
 
-/// What a file holds: the plan, 1,048,577 bytes that are no capture, a capture of so many bytes whose records are empty, or a capture of 67,108,864 bytes
-/// with 256 records: 255 of 262,144 bytes, and one of 258,024.
+/// What a file holds: the plan, 1,048,577 bytes that are no capture, a capture of so many bytes whose records are
+/// empty, or a capture of 67,108,864 bytes with 256 records: 255 of 262,144 bytes, and one of 258,024.
 #[derive(Clone, Copy)]
 enum Content {
     Plan,
@@ -161,12 +162,12 @@ static CASES: [Case; 4] = [
 ];
 
 /// Whether a run ends as it must.
-fn ends_so(alloc: Global, case: &Case) -> Result<bool, Failed> {
+fn ends_so(alloc: Global, state: RandomState, case: &Case) -> Result<bool, Failed> {
     let mut words = Vec::new(alloc);
     for word in case.words {
         words.push(String::from_str(alloc, word)?)?;
     }
-    let status = top_plain(alloc, words.as_slice(), &mut Computed);
+    let status = top_plain(alloc, state, words.as_slice(), &mut Computed);
     let line = format!(in alloc; "{status}")?;
     Ok(line.as_str() == case.line && status.code() == case.code)
 }
@@ -174,8 +175,9 @@ fn ends_so(alloc: Global, case: &Case) -> Result<bool, Failed> {
 /// Limits 1, 2 and 4, and memory that is wanting.
 #[test]
 fn limits(rt: HostRuntime) -> Result<(), Failed> {
+    let state = RandomState::new(&rt)?;
     for (place, case) in CASES.iter().enumerate() {
-        assert!(rt; ends_so(rt.alloc(), case)?, "case {place}");
+        assert!(rt; ends_so(rt.alloc(), state, case)?, "case {place}");
     }
     Ok(())
 }
@@ -190,6 +192,6 @@ fn captures_limit(rt: HostRuntime) -> Result<(), Failed> {
         code: 10,
         line: "slnf: over limit 3\n",
     };
-    assert!(rt; ends_so(rt.alloc(), &case)?);
+    assert!(rt; ends_so(rt.alloc(), RandomState::new(&rt)?, &case)?);
     Ok(())
 }

@@ -1,10 +1,11 @@
 ghost use Rattle.std.specs.Prelude.{◌≡◌, ◌≤◌, ◌⊎◌, ℕ, List, IfOk, OnOk, IfErr, length, string_bytes};
 ghost use Rattle.slnf_shelf.specs.Shelf.{Moves, Rose, SameOthers, Writes};
-ghost use Rattle.slnf_flight.specs.Verdicts.{left_in};
+ghost use Rattle.slnf_run.specs.Verdicts.{left_in};
 ghost use Rattle.slnf_flight.specs.Output.{output_of};
 ghost use Rattle.slnf_top.specs.Names.{capture_name};
 ghost use Rattle.slnf_top.specs.Inputs.{IsGiven, AreGiven, AreSized};
-ghost use Rattle.slnf_top.specs.Files.{capture_files, files_of, IsNamed, WritesFiles, FileRose, Wrote, WroteOne};
+ghost use Rattle.slnf_top.specs.Files.{capture_files, files_of, names_of, IsNamed, WritesFiles, Wrote, WroteOne};
+ghost use Rattle.slnf_top.specs.Effects.{RoseAt};
 ghost use Rattle.slnf_top.specs.Refused.{StopsWriting, StaysUnless, StopsWithin, StopsAt};
 
 use crate::inputs::Given;
@@ -46,7 +47,8 @@ pub fn files_of(
     requires given { AreGiven given.now }
     requires sized { AreSized given.now outcome.now.verdicts }
     requires left { outcome.now.left ≡ left_in outcome.now.verdicts }
-    ensures { IfOk result (λ files. files.items ≡ files_of out.now given.now outcome.now.verdicts outcome.now.journal) }
+    ensures { IfOk result (λ files. files.items
+        ≡ files_of out.now given.now outcome.now.verdicts outcome.now.journal) }
 {
     let lanes = outcome.verdicts.as_slice();
     let mut files = capture_files(alloc, out, given, lanes)?;
@@ -98,16 +100,19 @@ fn capture_file(
     Ok(File::of(names::capture_name(alloc, out, lane)?, text))
 }
 
-/// Writes these files one after another. After a fault those before the one that was being written stand whole, and those
-/// behind it are as before.
+/// Writes these files one after another. After a fault those before the one that was being written stand whole, and
+/// those behind it are as before.
 pub fn write_files<S: Shelf>(shelf: &mut S, files: &[File]) -> Result<(), Status>
     ensures counts { Moves (WritesFiles files.now) (S.faults shelf.old) (S.faults shelf.new) }
     ensures no_fault { OnOk result (S.faults shelf.new ≡ S.faults shelf.old) }
     ensures still { IfErr result (StaysUnless Status.WriteFault (S.faults shelf.old) (S.faults shelf.new)) }
-    ensures others { (other : List ℕ) → ¬ IsNamed files.now other → S.holds shelf.new other ≡ S.holds shelf.old other }
+    ensures others { (other : List ℕ) → ¬ IsNamed files.now other
+        → S.holds shelf.new other ≡ S.holds shelf.old other }
     ensures written { OnOk result (Wrote files.now (S.holds shelf.old) (S.holds shelf.new)) }
-    ensures stopped { IfErr result (StopsWriting (FileRose files.now (S.faults shelf.old) (S.faults shelf.new))) }
-    ensures at_one { IfErr result (StopsAt files.now (S.faults shelf.old) (S.faults shelf.new) (S.holds shelf.old) (S.holds shelf.new)) }
+    ensures stopped { IfErr result
+        (StopsWriting (RoseAt (names_of files.now) (S.faults shelf.old) (S.faults shelf.new))) }
+    ensures at_one { IfErr result (StopsAt files.now (S.faults shelf.old) (S.faults shelf.new)
+        (S.holds shelf.old) (S.holds shelf.new)) }
 {
     for file in files {
         write_file(shelf, file)?;
@@ -122,9 +127,11 @@ fn write_file<S: Shelf>(shelf: &mut S, file: &File) -> Result<(), Status>
     ensures still { IfErr result (StaysUnless Status.WriteFault (S.faults shelf.old) (S.faults shelf.new)) }
     ensures others { SameOthers file.now.name (S.holds shelf.old) (S.holds shelf.new) }
     ensures written { OnOk result (WroteOne file.now (S.holds shelf.old) (S.holds shelf.new)) }
-    ensures stopped { IfErr result (StopsWriting (Rose Call.Begin file.now.name (S.faults shelf.old) (S.faults shelf.new)
+    ensures stopped { IfErr result (StopsWriting
+        (Rose Call.Begin file.now.name (S.faults shelf.old) (S.faults shelf.new)
         ⊎ Rose Call.Append file.now.name (S.faults shelf.old) (S.faults shelf.new))) }
-    ensures within { IfErr result (StopsWithin file.now (S.faults shelf.old) (S.faults shelf.new) (S.holds shelf.old) (S.holds shelf.new)) }
+    ensures within { IfErr result (StopsWithin file.now (S.faults shelf.old) (S.faults shelf.new)
+        (S.holds shelf.old) (S.holds shelf.new)) }
 {
     match write_whole(shelf, file.name.as_str(), file.text.as_slice()) {
         Ok(()) => Ok(()),

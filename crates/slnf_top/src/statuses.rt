@@ -30,8 +30,6 @@ pub enum Status {
     /// (2) or of the captures up to and with this one (3), or so many packets of these captures (4). Of a file that
     /// is too long, one byte more than its limit is read and counted.
     OverLimit { limit: u8, count: u64 },
-    /// The file asks for what isn't built yet. File 0 is the plan, and file 1 + k is lane k.
-    NotBuilt { file: u32 },
 }
 
 impl Status {
@@ -51,7 +49,6 @@ impl Status {
             Status::WriteFault => 6,
             Status::NoMemory => 7,
             Status::OverLimit { limit: _, count: _ } => 10,
-            Status::NotBuilt { file: _ } => 11,
         }
     }
 }
@@ -115,7 +112,6 @@ impl fmt::Display for Status {
             Status::WriteFault => writeln!(f, "slnf: write fault"),
             Status::NoMemory => writeln!(f, "slnf: no memory"),
             Status::OverLimit { limit, count: _ } => writeln!(f, "slnf: over limit {limit}"),
-            Status::NotBuilt { file: _ } => writeln!(f, "slnf: not built yet"),
         }
     }
 }

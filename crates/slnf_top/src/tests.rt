@@ -1,74 +1,18 @@
 //! The command over files in memory, by the lines of a text.
 use super::*;
-use crate::cases::{CASES, MANY};
-use slnf_shelf::{Call, Fail, MemoryShelf, Shelf};
+use crate::cases;
+use crate::letters::{letter, sign};
+use slnf_base::Row;
+use slnf_shelf::{Call, Fail, MemoryShelf, Shelf, read_whole};
 use std::alloc::Global;
+use std::hash::RandomState;
 use std::test::Fail as Failed;
-
-/// The bytes that a letter stands for in a capture. The records of clients are of 192.0.2.1, port 4000 or 4001.
-fn letter(letter: char) -> &'static [u8] {
-    match letter {
-        // The headers: microseconds and raw IP, and the other byte order with nanoseconds and Ethernet.
-        'h' =>
-            b"\xd4\xc3\xb2\xa1\x02\x00\x04\x00\x00\x00\x00\x00\x00\x00\x00\x00\x00\x00\x04\x00\x65\x00\x00\x00",
-        'H' =>
-            b"\xa1\xb2\x3c\x4d\x00\x02\x00\x04\x00\x00\x00\x00\x00\x00\x00\x00\x00\x04\x00\x00\x00\x00\x00\x01",
-        // A datagram of port 4000 to the service, and the same sent on to the first and to the second backend.
-        'P' =>
-            b"\x01\x00\x00\x00\x00\x00\x00\x00\x1c\x00\x00\x00\x1c\x00\x00\x00\x45\x00\x00\x1c\x00\x01\x00\x00\x40\x11\x8e\x91\xc0\x00\x02\x01\xc6\x33\x64\x0a\x0f\xa0\x00\x35\x00\x08\x03\xca",
-        'a' =>
-            b"\x01\x00\x00\x00\x00\x00\x00\x00\x1c\x00\x00\x00\x1c\x00\x00\x00\x45\x00\x00\x1c\x00\x01\x00\x00\x40\x11\xae\xcd\xc0\x00\x02\x01\x0a\x01\x00\x01\x0f\xa0\x00\x35\x00\x08\x24\x06",
-        'b' =>
-            b"\x01\x00\x00\x00\x00\x00\x00\x00\x1c\x00\x00\x00\x1c\x00\x00\x00\x45\x00\x00\x1c\x00\x01\x00\x00\x40\x11\xae\xcc\xc0\x00\x02\x01\x0a\x01\x00\x02\x0f\xa0\x00\x35\x00\x08\x24\x05",
-        // The same of port 4001.
-        'Q' =>
-            b"\x01\x00\x00\x00\x00\x00\x00\x00\x1c\x00\x00\x00\x1c\x00\x00\x00\x45\x00\x00\x1c\x00\x01\x00\x00\x40\x11\x8e\x91\xc0\x00\x02\x01\xc6\x33\x64\x0a\x0f\xa1\x00\x35\x00\x08\x03\xc9",
-        'c' =>
-            b"\x01\x00\x00\x00\x00\x00\x00\x00\x1c\x00\x00\x00\x1c\x00\x00\x00\x45\x00\x00\x1c\x00\x01\x00\x00\x40\x11\xae\xcd\xc0\x00\x02\x01\x0a\x01\x00\x01\x0f\xa1\x00\x35\x00\x08\x24\x05",
-        'd' =>
-            b"\x01\x00\x00\x00\x00\x00\x00\x00\x1c\x00\x00\x00\x1c\x00\x00\x00\x45\x00\x00\x1c\x00\x01\x00\x00\x40\x11\xae\xcc\xc0\x00\x02\x01\x0a\x01\x00\x02\x0f\xa1\x00\x35\x00\x08\x24\x04",
-        // A segment of port 4000 to the service, and the same sent on to the first backend.
-        'T' =>
-            b"\x01\x00\x00\x00\x00\x00\x00\x00\x28\x00\x00\x00\x28\x00\x00\x00\x45\x00\x00\x28\x00\x01\x00\x00\x40\x06\x8e\x90\xc0\x00\x02\x01\xc6\x33\x64\x0a\x0f\xa0\x00\x35\x00\x00\x00\x01\x00\x00\x00\x00\x50\x02\xff\xff\xb3\xcd\x00\x00",
-        't' =>
-            b"\x01\x00\x00\x00\x00\x00\x00\x00\x28\x00\x00\x00\x28\x00\x00\x00\x45\x00\x00\x28\x00\x01\x00\x00\x40\x06\xae\xcc\xc0\x00\x02\x01\x0a\x01\x00\x01\x0f\xa0\x00\x35\x00\x00\x00\x01\x00\x00\x00\x00\x50\x02\xff\xff\xd4\x09\x00\x00",
-        // A datagram that comes back from the first backend, and a record that says 262,145 captured bytes.
-        'R' =>
-            b"\x01\x00\x00\x00\x00\x00\x00\x00\x1c\x00\x00\x00\x1c\x00\x00\x00\x45\x00\x00\x1c\x00\x01\x00\x00\x40\x11\x00\x00\x0a\x01\x00\x01\xc0\x00\x02\x01\x00\x35\x0f\xa0\x00\x08\x00\x00",
-        'O' => b"\x01\x00\x00\x00\x00\x00\x00\x00\x01\x00\x04\x00\x01\x00\x04\x00",
-        // Over Ethernet: an ARP frame, a fragment, the datagram with 18 bytes of padding, and this sent on.
-        'U' =>
-            b"\x00\x00\x00\x01\x00\x00\x00\x00\x00\x00\x00\x2a\x00\x00\x00\x2a\x02\x00\x00\x00\x00\x01\x02\x00\x00\x00\x00\x02\x08\x06\x00\x00\x00\x00\x00\x00\x00\x00\x00\x00\x00\x00\x00\x00\x00\x00\x00\x00\x00\x00\x00\x00\x00\x00\x00\x00\x00\x00",
-        'F' =>
-            b"\x00\x00\x00\x01\x00\x00\x00\x00\x00\x00\x00\x2a\x00\x00\x00\x2a\x02\x00\x00\x00\x00\x01\x02\x00\x00\x00\x00\x02\x08\x00\x45\x00\x00\x1c\x00\x01\x20\x00\x40\x11\x6e\x91\xc0\x00\x02\x01\xc6\x33\x64\x0a\x0f\xa0\x00\x35\x00\x08\x03\xca",
-        'D' =>
-            b"\x00\x00\x00\x02\x00\x00\x00\x00\x00\x00\x00\x3c\x00\x00\x00\x3c\x02\x00\x00\x00\x00\x01\x02\x00\x00\x00\x00\x02\x08\x00\x45\x00\x00\x1c\x00\x01\x00\x00\x40\x11\x8e\x91\xc0\x00\x02\x01\xc6\x33\x64\x0a\x0f\xa0\x00\x35\x00\x08\x03\xca\x00\x00\x00\x00\x00\x00\x00\x00\x00\x00\x00\x00\x00\x00\x00\x00\x00\x00",
-        's' =>
-            b"\x00\x00\x00\x02\x00\x00\x00\x00\x00\x00\x00\x3c\x00\x00\x00\x3c\x02\x00\x00\x00\x00\x01\x02\x00\x00\x00\x00\x02\x08\x00\x45\x00\x00\x1c\x00\x01\x00\x00\x40\x11\xae\xcd\xc0\x00\x02\x01\x0a\x01\x00\x01\x0f\xa0\x00\x35\x00\x08\x24\x06\x00\x00\x00\x00\x00\x00\x00\x00\x00\x00\x00\x00\x00\x00\x00\x00\x00\x00",
-        _ => &[0; 5],
-    }
-}
-
-/// What a sign stands for in a text, or nothing where it stands for itself.
-fn sign(sign: char) -> &'static str {
-    match sign {
-        ';' => "\n",
-        'K' => "04110000000000000000c00002010fa0",
-        'L' => "04110000000000000000c00002010fa1",
-        'J' => "04060000000000000000c00002010fa0",
-        'A' => "000000000000000000000a0100010035",
-        'B' => "000000000000000000000a0100020035",
-        '@' => {
-            "{ lane = 0 }, { lane = 1 }, { lane = 2 }, { lane = 3 }, { lane = 4 }, { lane = 5 }, { lane = 6 }, { lane = 7 }, { lane = 8 }, { lane = 9 }, { lane = 10 }, { lane = 11 }, { lane = 12 }, { lane = 13 }, { lane = 14 }, { lane = 15 }, { lane = 16 }, { lane = 17 }, { lane = 18 }, { lane = 19 }, { lane = 20 }, { lane = 21 }, { lane = 22 }, { lane = 23 }, { lane = 24 }, { lane = 25 }, { lane = 26 }, { lane = 27 }, { lane = 28 }, { lane = 29 }, { lane = 30 }, { lane = 31 }"
-        }
-        _ => "",
-    }
-}
 
 /// The files, and the captures among them.
 #[derive(Drop)]
 struct Scene {
     alloc: Global,
+    state: RandomState,
     shelf: MemoryShelf,
     captures: usize,
     status: Status,
@@ -137,6 +81,28 @@ impl Scene {
         Ok(self.shelf.put("plan.toml", plan.as_bytes())?)
     }
 
+    /// Puts a NAT's plan there.
+    fn put_nat(&mut self, text: &str) -> Result<(), Failed> {
+        let (head, rest) = parted(text);
+        let head = spelled(self.alloc, head, 1)?;
+        let (low, rest) = parted(rest);
+        let (high, epochs) = parted(rest);
+        let epochs = spelled(self.alloc, epochs, 1)?;
+        let plan = format!(in self.alloc;
+            "function = \"nat\"\n{head}\n[nat]\ninside = \"10.0.0.0/8\"\noutside = \"203.0.113.1\"\nports = [{low}, {high}]\n{epochs}"
+        )?;
+        Ok(self.shelf.put("plan.toml", plan.as_bytes())?)
+    }
+
+    /// Puts a firewall's plan there, which permits all TCP from inside to outside.
+    fn put_firewall(&mut self, epochs: &str) -> Result<(), Failed> {
+        let epochs = spelled(self.alloc, epochs, 1)?;
+        let plan = format!(in self.alloc;
+            "function = \"firewall\"\nshards = 1\n[firewall]\ninside = \"10.0.0.0/8\"\nrules = [{{ action = \"permit\", direction = \"out\", proto = \"tcp\" }}]\n{epochs}"
+        )?;
+        Ok(self.shelf.put("plan.toml", plan.as_bytes())?)
+    }
+
     /// Puts captures there.
     fn put_captures(&mut self, text: &str) -> Result<(), Failed> {
         let (lanes, rest) = parted(text);
@@ -157,7 +123,7 @@ impl Scene {
     /// Runs the command on these words, and says whether it ends with this status.
     fn run(&mut self, code: &str, words: &[String]) -> Result<bool, Failed> {
         let code: u8 = code.parse()?;
-        self.status = top_plain(self.alloc, words, &mut self.shelf);
+        self.status = top_plain(self.alloc, self.state, words, &mut self.shelf);
         Ok(self.status.code() == code)
     }
 
@@ -172,11 +138,14 @@ impl Scene {
         Ok(ended && told == line.replace(self.alloc, ";", "\n")?)
     }
 
-    /// Whether the file holds these bytes, at most 1,023 of them.
+    /// What the file holds.
+    fn whole(&mut self, name: &str) -> Result<Row<u8>, Failed> {
+        Ok(read_whole(self.alloc, &mut self.shelf, name, 1_000_000)?)
+    }
+
+    /// Whether the file holds these bytes.
     fn holds(&mut self, name: &str, bytes: &[u8]) -> Result<bool, Failed> {
-        let mut buffer = [0; 1024];
-        let count = self.shelf.read(name, 0, &mut buffer)?;
-        Ok(&buffer[..count] == bytes)
+        Ok(self.whole(name)?.as_slice() == bytes)
     }
 
     /// Does what a line says, and says whether what it tells is so.
@@ -193,6 +162,8 @@ impl Scene {
                 self.shelf.put("plan.toml", plan.as_bytes())?;
             }
             "balancer" => self.put_balancer(rest)?,
+            "nat" => self.put_nat(rest)?,
+            "firewall" => self.put_firewall(rest)?,
             "in" => self.put_captures(rest)?,
             "ends" => return self.ends(first, last),
             "words" => {
@@ -226,14 +197,19 @@ fn words_of(alloc: Global, text: &str) -> Result<Vec<String>, Failed> {
     Ok(words)
 }
 
-/// Does what each line says, and says which one told what isn't so.
-fn first_wrong<'a>(alloc: Global, lines: &'a str) -> Result<Option<&'a str>, Failed> {
-    let mut scene = Scene {
+/// A scene without files.
+fn empty(alloc: Global, state: RandomState) -> Scene {
+    Scene {
         alloc,
+        state,
         shelf: MemoryShelf::make(alloc, Vec::new(alloc)),
         captures: 0,
         status: Status::Ok,
-    };
+    }
+}
+
+/// Does what each line says, and says which one told what isn't so.
+fn first_wrong<'a>(scene: &mut Scene, lines: &'a str) -> Result<Option<&'a str>, Failed> {
     for line in lines.lines() {
         if !scene.follow(line)? {
             return Ok(Some(line));
@@ -242,16 +218,110 @@ fn first_wrong<'a>(alloc: Global, lines: &'a str) -> Result<Option<&'a str>, Fai
     Ok(None)
 }
 
-/// Whole runs byte for byte, faults and refusals, each with its status and its fault line.
+/// Which line of a text told what isn't so.
+fn wrong_in<'a>(rt: &HostRuntime, lines: &'a str) -> Result<Option<&'a str>, Failed> {
+    let mut scene = empty(rt.alloc(), RandomState::new(rt)?);
+    first_wrong(&mut scene, lines)
+}
+
+/// Whole runs of a balancer, byte for byte, forward and back.
 #[test]
-fn cases(rt: HostRuntime) -> Result<(), Failed> {
-    assert_eq!(rt; first_wrong(rt.alloc(), CASES)?, None);
+fn balancers(rt: HostRuntime) -> Result<(), Failed> {
+    assert_eq!(rt; wrong_in(&rt, cases::BALANCERS)?, None);
+    Ok(())
+}
+
+/// Epochs, quotas and stops.
+#[test]
+fn endings(rt: HostRuntime) -> Result<(), Failed> {
+    assert_eq!(rt; wrong_in(&rt, cases::ENDINGS)?, None);
+    Ok(())
+}
+
+/// Batches of 3 and of 8 packets.
+#[test]
+fn batches(rt: HostRuntime) -> Result<(), Failed> {
+    assert_eq!(rt; wrong_in(&rt, cases::BATCHES)?, None);
+    Ok(())
+}
+
+/// Whole runs of a NAT: out and back, a race, pools that are full, an orphan and its sweep.
+#[test]
+fn nats(rt: HostRuntime) -> Result<(), Failed> {
+    assert_eq!(rt; wrong_in(&rt, cases::NATS)?, None);
+    Ok(())
+}
+
+/// Whole runs of a firewall: a connection, two replaces at once, and packets that are denied.
+#[test]
+fn firewalls(rt: HostRuntime) -> Result<(), Failed> {
+    assert_eq!(rt; wrong_in(&rt, cases::FIREWALLS)?, None);
+    Ok(())
+}
+
+/// Frames without a view, files that aren't there, faults, and words of no form.
+#[test]
+fn faults(rt: HostRuntime) -> Result<(), Failed> {
+    assert_eq!(rt; wrong_in(&rt, cases::FAULTS)?, None);
+    Ok(())
+}
+
+/// Captures and plans that are refused, each with its status and its fault line.
+#[test]
+fn refusals(rt: HostRuntime) -> Result<(), Failed> {
+    assert_eq!(rt; wrong_in(&rt, cases::REFUSALS)?, None);
     Ok(())
 }
 
 /// Runs of many packets, epochs and instances.
 #[test]
 fn many(rt: HostRuntime) -> Result<(), Failed> {
-    assert_eq!(rt; first_wrong(rt.alloc(), MANY)?, None);
+    assert_eq!(rt; wrong_in(&rt, cases::MANY)?, None);
+    Ok(())
+}
+
+/// The files that a run of two lanes writes.
+static OUTPUTS: [&str; 5] = [
+    "out.0.pcap",
+    "out.1.pcap",
+    "out.verdicts",
+    "out.journal",
+    "-",
+];
+
+/// Whether the file holds the same in both scenes.
+fn is_same(first: &mut Scene, second: &mut Scene, name: &str) -> Result<bool, Failed> {
+    let one = first.whole(name)?;
+    let other = second.whole(name)?;
+    Ok(one.as_slice() == other.as_slice())
+}
+
+/// Which file of a run differs in the two scenes.
+fn first_other(first: &mut Scene, second: &mut Scene) -> Result<Option<&'static str>, Failed> {
+    for name in &OUTPUTS {
+        if !is_same(first, second, name)? {
+            return Ok(Some(name));
+        }
+    }
+    Ok(None)
+}
+
+/// Which line of the text isn't so, or which file differs, where the text runs in both scenes.
+fn unlike(first: &mut Scene, second: &mut Scene) -> Result<Option<&'static str>, Failed> {
+    if let Some(line) = first_wrong(first, cases::SEEDS)? {
+        return Ok(Some(line));
+    }
+    if let Some(line) = first_wrong(second, cases::SEEDS)? {
+        return Ok(Some(line));
+    }
+    first_other(first, second)
+}
+
+/// Two states of the store's hashing give the same files.
+#[test]
+fn seeds(rt: HostRuntime) -> Result<(), Failed> {
+    let mut first = empty(rt.alloc(), RandomState::new(&rt)?);
+    let mut second = empty(rt.alloc(), RandomState::new(&rt)?);
+    assert_eq!(rt; unlike(&mut first, &mut second)?, None);
     Ok(())
 }

@@ -1,10 +1,10 @@
 ghost use Rattle.std.specs.Prelude.{◌≡◌, ◌≢◌, ◌≤◌, ◌&&◌, [], map, length, IsNone, IfSome, IfNone, Some, None, string_bytes};
 ghost use Rattle.std.specs.List.{list_all};
-ghost use Rattle.slnf_top.specs.Words.{is_proper, are_captures, step_words};
+ghost use Rattle.slnf_top.specs.Words.{Step, is_proper, are_captures, command_of};
 
-/// The words of `step PLAN OUT IN..`.
+/// The words PLAN OUT IN.. of a command.
 #[derive(Clone, Copy)]
-pub struct StepWords<'a> {
+pub struct PlanWords<'a> {
     pub plan: &'a str,
     pub out: &'a str,
     pub captures: &'a [String],
@@ -40,15 +40,19 @@ fn are_captures(words: &[String]) -> bool
 }
 
 /// The words of `step`, where they are of its form.
-pub fn step_words(words: &[String]) -> Option<StepWords<'_>>
-    ensures none { IfNone result (step_words (map string_bytes words.now) ≡ None) }
-    ensures some { IfSome result (λ found. step_words (map string_bytes words.now)
-        ≡ Some (record { plan = found.plan.now; out = found.out.now; captures = map string_bytes found.captures.now })) }
+pub fn step_words(words: &[String]) -> Option<PlanWords<'_>>
+    ensures none { IfNone result (command_of (map string_bytes words.now) ≡ None) }
+    ensures some { IfSome result (λ found. command_of (map string_bytes words.now)
+        ≡ Some (Step (record {
+          plan = found.plan.now;
+          out = found.out.now;
+          captures = map string_bytes found.captures.now;
+        }))) }
     ensures few { IfSome result (λ found. length found.captures.now ≤ 32) }
 {
     match words {
         [command, plan, out, captures @ ..] => {
-            let found = StepWords {
+            let found = PlanWords {
                 plan: plan.as_str(),
                 out: out.as_str(),
                 captures,

@@ -4,40 +4,59 @@ use Rattle.std.proofs.lemmas.Result.{err_from_is_err_and}
 use Rattle.slnf_top.proofs.Reading.{moves_at, next_at, refused_in, reads_over}
 use Rattle.slnf_top.proofs.inputs.read_captures.Goals as goal
 
-pub returns-in_err-input-clause-counts : goal.returns-in_err-input-clause-counts
-returns-in_err-input-clause-counts g c =
-    moves_at string_bytes c.args.names.now c.loop-name.name-index c.name-item.result c.as_str.result.now c.args.service.now
-    (g.S.Shelf.faults c.args.shelf.now) (g.S.Shelf.faults c.loop-name.shelf) (g.S.Shelf.faults c.read_input.new.shelf) (g.S.Shelf.holds c.args.shelf.now) (g.S.Shelf.holds c.loop-name.shelf)
-    (map string_bytes c.args.names.now) c.loop-name.given.items c.loop-name.lanes.items c.loop-name.tally (omega (arith, c.loop-name-test.true)) c.name-item.is c.as_str.ensures.value c.loop-name.invariant c.read_input.ensures.counts
+pub returns-in_err-next-clause-counts : goal.returns-in_err-next-clause-counts
+returns-in_err-next-clause-counts g c =
+    moves_at string_bytes c.args.names.now c.loop-name.name-index c.name-item.result c.as_str.result.now
+    (g.S.Shelf.faults c.args.shelf.now) (g.S.Shelf.faults c.loop-name.shelf) (g.S.Shelf.faults c.read_next.new.shelf)
+    (g.S.Shelf.holds c.args.shelf.now) (g.S.Shelf.holds c.loop-name.shelf) (map string_bytes c.args.names.now)
+    c.loop-name.given.items c.loop-name.lanes.items c.loop-name.tally
+    (omega (arith, c.loop-name-test.true)) c.name-item.is c.as_str.ensures.value c.loop-name.invariant
+    c.read_next.ensures.counts
 
 pub returns-in_err-push-clause-counts : goal.returns-in_err-push-clause-counts
 returns-in_err-push-clause-counts g c =
-    moves_at string_bytes c.args.names.now c.loop-name.name-index c.name-item.result c.as_str.result.now c.args.service.now
-    (g.S.Shelf.faults c.args.shelf.now) (g.S.Shelf.faults c.loop-name.shelf) (g.S.Shelf.faults c.read_input.new.shelf) (g.S.Shelf.holds c.args.shelf.now) (g.S.Shelf.holds c.loop-name.shelf)
-    (map string_bytes c.args.names.now) c.loop-name.given.items c.loop-name.lanes.items c.loop-name.tally (omega (arith, c.loop-name-test.true)) c.name-item.is c.as_str.ensures.value c.loop-name.invariant c.read_input.ensures.counts
+    moves_at string_bytes c.args.names.now c.loop-name.name-index c.name-item.result c.as_str.result.now
+    (g.S.Shelf.faults c.args.shelf.now) (g.S.Shelf.faults c.loop-name.shelf) (g.S.Shelf.faults c.read_next.new.shelf)
+    (g.S.Shelf.holds c.args.shelf.now) (g.S.Shelf.holds c.loop-name.shelf) (map string_bytes c.args.names.now)
+    c.loop-name.given.items c.loop-name.lanes.items c.loop-name.tally
+    (omega (arith, c.loop-name-test.true)) c.name-item.is c.as_str.ensures.value c.loop-name.invariant
+    c.read_next.ensures.counts
 
 pub returns-in_err-push-2-clause-counts : goal.returns-in_err-push-2-clause-counts
 returns-in_err-push-2-clause-counts g c =
-    moves_at string_bytes c.args.names.now c.loop-name.name-index c.name-item.result c.as_str.result.now c.args.service.now
-    (g.S.Shelf.faults c.args.shelf.now) (g.S.Shelf.faults c.loop-name.shelf) (g.S.Shelf.faults c.read_input.new.shelf) (g.S.Shelf.holds c.args.shelf.now) (g.S.Shelf.holds c.loop-name.shelf)
-    (map string_bytes c.args.names.now) c.loop-name.given.items c.loop-name.lanes.items c.loop-name.tally (omega (arith, c.loop-name-test.true)) c.name-item.is c.as_str.ensures.value c.loop-name.invariant c.read_input.ensures.counts
+    moves_at string_bytes c.args.names.now c.loop-name.name-index c.name-item.result c.as_str.result.now
+    (g.S.Shelf.faults c.args.shelf.now) (g.S.Shelf.faults c.loop-name.shelf) (g.S.Shelf.faults c.read_next.new.shelf)
+    (g.S.Shelf.holds c.args.shelf.now) (g.S.Shelf.holds c.loop-name.shelf) (map string_bytes c.args.names.now)
+    c.loop-name.given.items c.loop-name.lanes.items c.loop-name.tally
+    (omega (arith, c.loop-name-test.true)) c.name-item.is c.as_str.ensures.value c.loop-name.invariant
+    c.read_next.ensures.counts
 
-pub returns-in_err-input-clause-refused : goal.returns-in_err-input-clause-refused
-returns-in_err-input-clause-refused g c =
+pub returns-in_err-next-clause-refused : goal.returns-in_err-next-clause-refused
+returns-in_err-next-clause-refused g c =
     let p = err_from_is_err_and c.from_residual.result c.from_residual.ensures.1 in
-    rw (p.1, p.2) (refused_in string_bytes c.args.names.now c.loop-name.name-index c.name-item.result c.as_str.result.now c.args.service.now
-    (g.S.Shelf.faults c.args.shelf.now) (g.S.Shelf.faults c.loop-name.shelf) (g.S.Shelf.faults c.read_input.new.shelf) (g.S.Shelf.holds c.args.shelf.now) (g.S.Shelf.holds c.loop-name.shelf)
-    (map string_bytes c.args.names.now) c.loop-name.given.items c.loop-name.lanes.items c.loop-name.tally c.in_err-input.field-0.0 (omega (arith, c.loop-name-test.true)) c.name-item.is c.as_str.ensures.value c.loop-name.invariant c.in_err-input.ensures.refused)
+    rw (p.1, p.2) (refused_in string_bytes c.args.names.now c.loop-name.name-index c.name-item.result
+    c.as_str.result.now
+    (g.S.Shelf.faults c.args.shelf.now) (g.S.Shelf.faults c.loop-name.shelf) (g.S.Shelf.faults c.read_next.new.shelf)
+    (g.S.Shelf.holds c.args.shelf.now) (g.S.Shelf.holds c.loop-name.shelf) (map string_bytes c.args.names.now)
+    c.loop-name.given.items c.loop-name.lanes.items c.loop-name.tally c.in_err-next.field-0.0
+    (omega (arith, c.loop-name-test.true)) c.name-item.is c.as_str.ensures.value c.loop-name.invariant
+    c.in_err-next.ensures.refused)
 
 pub loop-name-preserved : goal.loop-name-preserved
 loop-name-preserved g c =
-    next_at string_bytes c.args.names.now c.loop-name.name-index c.name-item.result c.as_str.result.now c.args.service.now
-    (g.S.Shelf.faults c.args.shelf.now) (g.S.Shelf.faults c.loop-name.shelf) (g.S.Shelf.faults c.read_input.new.shelf) (g.S.Shelf.holds c.args.shelf.now) (g.S.Shelf.holds c.loop-name.shelf) (g.S.Shelf.holds c.read_input.new.shelf)
-    (map string_bytes c.args.names.now) c.loop-name.given.items c.push.new.self.items c.loop-name.lanes.items c.push-in-loop-name.new.self.items c.loop-name.tally c.in_ok-input.input (omega (arith, c.loop-name-test.true)) c.name-item.is c.as_str.ensures.value c.loop-name.invariant
-    c.read_input.ensures.counts c.in_ok-input.ensures.no_fault c.read_input.ensures.files c.in_ok-input.ensures.told c.in_ok-input.ensures.next c.in_ok-push.ensures.items c.in_ok-push-2.ensures.items
+    next_at string_bytes c.args.names.now c.loop-name.name-index c.name-item.result c.as_str.result.now
+    (g.S.Shelf.faults c.args.shelf.now) (g.S.Shelf.faults c.loop-name.shelf) (g.S.Shelf.faults c.read_next.new.shelf)
+    (g.S.Shelf.holds c.args.shelf.now) (g.S.Shelf.holds c.loop-name.shelf) (map string_bytes c.args.names.now)
+    c.loop-name.given.items c.loop-name.lanes.items c.loop-name.tally
+    (g.S.Shelf.holds c.read_next.new.shelf) c.push.new.self.items c.push-in-loop-name.new.self.items c.in_ok-next.next
+    (omega (arith, c.loop-name-test.true)) c.name-item.is c.as_str.ensures.value c.loop-name.invariant
+    c.read_next.ensures.counts c.in_ok-next.ensures.no_fault c.read_next.ensures.files c.in_ok-next.ensures.told
+    c.in_ok-next.ensures.next c.in_ok-push.ensures.items c.in_ok-push-2.ensures.items
 
 pub returns-clause-read : goal.returns-clause-read
 returns-clause-read g c =
-    reads_over string_bytes c.args.names.now c.loop-name.name-index c.args.service.now (g.S.Shelf.faults c.args.shelf.now) (g.S.Shelf.faults c.loop-name.shelf)
-    (g.S.Shelf.holds c.args.shelf.now) (g.S.Shelf.holds c.loop-name.shelf) (map string_bytes c.args.names.now) c.loop-name.given.items c.from_vec.result c.loop-name.lanes.items c.from_vec-2.result c.loop-name.tally
+    reads_over string_bytes c.args.names.now c.loop-name.name-index (g.S.Shelf.faults c.args.shelf.now)
+    (g.S.Shelf.faults c.loop-name.shelf)
+    (g.S.Shelf.holds c.args.shelf.now) (g.S.Shelf.holds c.loop-name.shelf) (map string_bytes c.args.names.now)
+    c.loop-name.given.items c.from_vec.result c.loop-name.lanes.items c.from_vec-2.result c.loop-name.tally
     (omega (arith, c.loop-name-test.false)) c.from_vec.ensures c.from_vec-2.ensures c.loop-name.invariant

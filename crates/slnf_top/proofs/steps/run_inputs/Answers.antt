@@ -9,21 +9,24 @@ use Rattle.slnf_top.proofs.steps.run_inputs.Goals as goal
 
 pub files_of-requires-clause-lanes : goal.files_of-requires-clause-lanes
 files_of-requires-clause-lanes c =
-    let inputs = c.args.inputs.now in
-    let same : length c.as_slice-2.result.now ≡ length inputs.given = ap length c.as_slice-2.ensures in
-    let count : length inputs.given ≡ length inputs.lanes = read_length inputs.given inputs.lanes c.requires.read in
-    let few : length inputs.lanes ≤ 32 = c.requires.few_lanes in
+    let captures = c.args.inputs.now.captures in
+    let same : length c.as_slice-2.result.now ≡ length captures.given = ap length c.as_slice-2.ensures in
+    let count : length captures.given ≡ length captures.lanes =
+    read_length captures.given captures.lanes c.requires.read in
+    let few : length captures.lanes ≤ 32 = c.requires.few_lanes in
     omega arith
 
 pub files_of-requires-clause-given : goal.files_of-requires-clause-given
 files_of-requires-clause-given c =
-    let inputs = c.args.inputs.now in
-    subst AreGiven (sym c.as_slice-2.ensures) (read_given inputs.given inputs.lanes c.requires.read)
+    let captures = c.args.inputs.now.captures in
+    subst AreGiven (sym c.as_slice-2.ensures) (read_given captures.given captures.lanes c.requires.read)
 
 pub files_of-requires-clause-sized : goal.files_of-requires-clause-sized
 files_of-requires-clause-sized c =
     let inputs = c.args.inputs.now in
-    let is : IsOutcome c.args.plan.now c.args.service.now inputs.lanes c.in_ok-outcome.outcome =
-    subst (λ (ls : List Lane). IsOutcome c.args.plan.now c.args.service.now ls c.in_ok-outcome.outcome) c.as_slice.ensures c.in_ok-outcome.ensures in
+    let captures = inputs.captures in
+    let is : IsOutcome inputs.plan captures.lanes c.in_ok-outcome.outcome =
+    subst (λ (ls : List Lane). IsOutcome inputs.plan ls c.in_ok-outcome.outcome)
+    c.as_slice.ensures c.in_ok-outcome.ensures in
     subst (λ (gs : List Given). AreSized gs c.in_ok-outcome.outcome.verdicts) (sym c.as_slice-2.ensures)
-    (sized c.args.plan.now c.args.service.now inputs.given inputs.lanes c.in_ok-outcome.outcome c.requires.read is)
+    (sized inputs.plan captures.given captures.lanes c.in_ok-outcome.outcome c.requires.read is)

@@ -1,0 +1,257 @@
+-- What a command answers to bytes that are told, by how far its reading came.
+use Rattle.std.proofs.Common.{◌≡◌, ◌≢◌, ◌⊎◌, ◌<◌, inl, inr, ℕ, Option, Some, None, List, [], ◌∷◌, ◌++◌, map, refl, ap, sym, ◌∙◌, subst, arith}
+use Rattle.std.specs.Prelude.{Result, Ok, Err, IfSome}
+use Rattle.slnf_pcap.specs.declared.errors.PcapError.{PcapError}
+use Rattle.slnf_pcap.specs.declared.errors.PcapError.TheVariants.{NoMemory as PcapNoMemory}
+use Rattle.slnf_plan.specs.declared.error.PlanError.{PlanError}
+use Rattle.slnf_plan.specs.declared.error.PlanError.TheVariants.{NoMemory as PlanNoMemory}
+use Rattle.slnf_plan.specs.Plain.{PlainPlan}
+use Rattle.slnf_shelf.specs.declared.shelf.Call.{Call}
+use Rattle.slnf_shelf.specs.Shelf.{Faults, Rose}
+use Rattle.slnf_top.specs.declared.statuses.Status.{Status}
+use Rattle.slnf_top.specs.declared.statuses.Status.TheVariants as status
+use Rattle.slnf_top.specs.declared.inputs.Tally.{Tally}
+use Rattle.slnf_top.specs.Words.{PlanWords, Command, Step, command_of}
+use Rattle.slnf_top.specs.Kinds.{Kind, Whole, Formless, Refusing, Unread, Unwritten, Wanting, kind_of}
+use Rattle.slnf_top.specs.Readings.{Input, PlanFile, CaptureFile, captures_in, inputs_of, name_of, reading_of, with_plan, plan_reading, go_on, first_refusal, no_tally}
+use Rattle.slnf_top.specs.Reached.{Holds, HavePassed, MayRefuse, IsRefused, AllPassed, IsPlanOfCommand, IsOfPlan, FollowsPlan}
+use Rattle.slnf_top.specs.Effects.{input_names}
+use Rattle.slnf_top.specs.Inputs.{AreHeld}
+use Rattle.slnf_top.specs.Outcome.{Ended, IsComplete}
+use Rattle.slnf_top.proofs.Passing.{told}
+use Rattle.slnf_top.proofs.ByKind.{formless_is, unread_is, unwritten_is, wanting_is, has_read_at}
+
+-- an input that passed, and one that is refused, behind those before them
+refused_first : (held : Holds) (before : List Input) (input : Input) (after : List Input) (first tally : Tally)
+    (refusal : Status) (bytes : List (List ℕ)) →
+    HavePassed held before first tally → AreHeld held (map name_of (before ++ input ∷ after)) bytes →
+    IfSome (held (name_of input)) (λ b. reading_of input tally b ≡ Err refusal) →
+    first_refusal (before ++ input ∷ after) first bytes ≡ Some refusal
+refused_first held [] input after first tally refusal [] passed are gives = absurd are
+refused_first held [] input after first tally refusal (b ∷ more) passed are gives =
+    let at : reading_of input tally b ≡ Err refusal =
+    told (λ x. reading_of input tally x ≡ Err refusal) (held (name_of input)) b are.0 gives in
+    ap (go_on (λ next. first_refusal after next more)) (ap (λ (t : Tally). reading_of input t b) passed ∙ at)
+refused_first held (other ∷ before) input after first tally refusal [] passed are gives = absurd are
+refused_first held (other ∷ before) input after first tally refusal (b ∷ more) passed are gives =
+    let at : reading_of other first b ≡ Ok passed.0 =
+    told (λ x. reading_of other first x ≡ Ok passed.0) (held (name_of other)) b are.0 passed.1 in
+    ap (go_on (λ next. first_refusal (before ++ input ∷ after) next more)) at
+    ∙ refused_first held before input after passed.0 tally refusal more passed.2 are.1 gives
+
+pub first_of : (held : Holds) (inputs : List Input) (refusal : Status) (bytes : List (List ℕ)) →
+    IsRefused held inputs refusal → AreHeld held (map name_of inputs) bytes →
+    first_refusal inputs no_tally bytes ≡ Some refusal
+first_of held inputs refusal bytes is are =
+    let at = is.reached in
+    let there : AreHeld held (map name_of (at.before ++ is.input ∷ at.after)) bytes =
+    subst (λ (all : List Input). AreHeld held (map name_of all) bytes) at.are are in
+    subst (λ (all : List Input). first_refusal all no_tally bytes ≡ Some refusal) (sym at.are)
+    (refused_first held at.before is.input at.after no_tally is.tally refusal bytes at.passed there is.gives)
+
+-- no refusal carries want of memory
+plan_carries : (input : Input) (tally : Tally) → MayRefuse input tally (status.PlanBad PlanNoMemory) → ⊥
+plan_carries (PlanFile name) tally (inl own) =
+    own.1 (let e : status.PlanBad PlanNoMemory ≡ status.PlanBad own.0 = own.2 in cc)
+plan_carries (PlanFile name) tally (inr e) = cc
+plan_carries (CaptureFile name) tally (inl own) = let e = own.2 in cc
+plan_carries (CaptureFile name) tally (inr (inl e)) = cc
+plan_carries (CaptureFile name) tally (inr (inr (inl limit))) = let e = limit.1 in cc
+plan_carries (CaptureFile name) tally (inr (inr (inr limit))) = let e = limit.1 in cc
+
+capture_carries : (input : Input) (tally : Tally) (lane : ℕ) →
+    MayRefuse input tally (status.CaptureBad lane PcapNoMemory) → ⊥
+capture_carries (PlanFile name) tally lane (inl own) = let e = own.2 in cc
+capture_carries (PlanFile name) tally lane (inr e) = cc
+capture_carries (CaptureFile name) tally lane (inl own) =
+    own.1 (let e : status.CaptureBad lane PcapNoMemory ≡ status.CaptureBad tally.lanes own.0 = own.2 in cc)
+capture_carries (CaptureFile name) tally lane (inr (inl e)) = cc
+capture_carries (CaptureFile name) tally lane (inr (inr (inl limit))) = let e = limit.1 in cc
+capture_carries (CaptureFile name) tally lane (inr (inr (inr limit))) = let e = limit.1 in cc
+
+-- a capture's refusal is none of a plan's
+over_differ : (a b m n : ℕ) → b < a → status.OverLimit a m ≡ status.OverLimit b n → ⊥
+over_differ a b m n less e = let same : a ≡ b = cc in omega arith
+
+module _ (name : List ℕ) (tally : Tally) (refusal : Status) where
+  not_bad : MayRefuse (CaptureFile name) tally refusal → (error : PlanError) → refusal ≡ status.PlanBad error → ⊥
+  not_bad (inl own) error f = let e = own.2 in cc
+  not_bad (inr (inl e)) error f = cc
+  not_bad (inr (inr (inl limit))) error f = let e = limit.1 in cc
+  not_bad (inr (inr (inr limit))) error f = let e = limit.1 in cc
+
+  not_over : MayRefuse (CaptureFile name) tally refusal → (count : ℕ) → refusal ≡ status.OverLimit 1 count → ⊥
+  not_over (inl own) count f = let e = own.2 in cc
+  not_over (inr (inl e)) count f = over_differ 2 1 _ count (omega arith) (sym e ∙ f)
+  not_over (inr (inr (inl limit))) count f = over_differ 3 1 limit.0 count (omega arith) (sym limit.1 ∙ f)
+  not_over (inr (inr (inr limit))) count f = over_differ 4 1 limit.0 count (omega arith) (sym limit.1 ∙ f)
+
+  not_of_plan : MayRefuse (CaptureFile name) tally refusal → IsOfPlan refusal → ⊥
+  not_of_plan may (inl own) = not_bad may own.0 own.1
+  not_of_plan may (inr limit) = not_over may limit.0 limit.1
+
+-- the first of some inputs is what was reached, or it passed
+abbrev pub FirstOrBehind : Holds → List ℕ → List (List ℕ) → Status → Type 0
+FirstOrBehind held plan names refusal =
+    IfSome (held plan) (λ bytes. with_plan no_tally (plan_reading bytes) ≡ Err refusal)
+    ⊎ (((next : Tally) × IfSome (held plan) (λ bytes. with_plan no_tally (plan_reading bytes) ≡ Ok next))
+    × ((name : List ℕ) × (tally : Tally) × MayRefuse (CaptureFile name) tally refusal))
+
+-- an input among captures is one
+is_capture : (names : List (List ℕ)) (before : List Input) (input : Input) (after : List Input) →
+    captures_in names ≡ before ++ input ∷ after → (name : List ℕ) × (input ≡ CaptureFile name)
+is_capture [] [] input after e = let q : [] ≡ input ∷ after = e in cc
+is_capture [] (other ∷ before) input after e = let q : [] ≡ other ∷ (before ++ input ∷ after) = e in cc
+is_capture (name ∷ names) [] input after e =
+    let q : CaptureFile name ∷ captures_in names ≡ input ∷ after = e in
+    (name, let same : input ≡ CaptureFile name = cc in same)
+is_capture (name ∷ names) (other ∷ before) input after e =
+    let q : CaptureFile name ∷ captures_in names ≡ other ∷ (before ++ input ∷ after) = e in
+    let rest : captures_in names ≡ before ++ input ∷ after = cc in
+    is_capture names before input after rest
+
+first_or_behind : (held : Holds) (plan : List ℕ) (names : List (List ℕ)) (refusal : Status) (before : List Input)
+    (input : Input) (after : List Input) (tally : Tally) →
+    PlanFile plan ∷ captures_in names ≡ before ++ input ∷ after → HavePassed held before no_tally tally →
+    MayRefuse input tally refusal → IfSome (held (name_of input)) (λ b. reading_of input tally b ≡ Err refusal) →
+    FirstOrBehind held plan names refusal
+first_or_behind held plan names refusal [] input after tally e passed may gives =
+    let q : PlanFile plan ∷ captures_in names ≡ input ∷ after = e in
+    let same : input ≡ PlanFile plan = cc in
+    let at : IfSome (held plan) (λ b. reading_of (PlanFile plan) tally b ≡ Err refusal) =
+    subst (λ (i : Input). IfSome (held (name_of i)) (λ b. reading_of i tally b ≡ Err refusal)) same gives in
+    inl (subst (λ (t : Tally). IfSome (held plan) (λ b. with_plan t (plan_reading b) ≡ Err refusal)) (sym passed) at)
+first_or_behind held plan names refusal (other ∷ before) input after tally e passed may gives =
+    let q : PlanFile plan ∷ captures_in names ≡ other ∷ (before ++ input ∷ after) = e in
+    let same : other ≡ PlanFile plan = cc in
+    let rest : captures_in names ≡ before ++ input ∷ after = cc in
+    let there : IfSome (held plan) (λ b. reading_of (PlanFile plan) no_tally b ≡ Ok passed.0) =
+    subst (λ (i : Input). IfSome (held (name_of i)) (λ b. reading_of i no_tally b ≡ Ok passed.0)) same passed.1 in
+    let capture = is_capture names before input after rest in
+    inr ((passed.0, there), (capture.0, tally, subst (λ (i : Input). MayRefuse i tally refusal) capture.1 may))
+
+pub refused_so : (held : Holds) (words : PlanWords) (refusal : Status) →
+    IsRefused held (inputs_of (Step words)) refusal →
+    FirstOrBehind held words.plan words.captures refusal
+refused_so held words refusal is =
+    first_or_behind held words.plan words.captures refusal is.reached.before is.input is.reached.after is.tally
+    is.reached.are is.reached.passed is.may is.gives
+
+-- no count rose that stays
+below_self : (a b : Faults) (call : Call) (name : List ℕ) → b ≡ a → Rose call name a b → ⊥
+below_self a b call name still rose =
+    let same : b call name ≡ a call name = ap (λ (f : Faults). f call name) still in
+    let less : a call name < b call name = rose in
+    omega arith
+
+-- How a command ended, for what its plan reads as.
+module _ (words : PlanWords) (ended : Status) (a b : Faults) (held holds : Holds) (bytes : List ℕ) where
+  -- a plan that passes has no refusal
+  passes_so : (plan : PlainPlan) → Ended (Step words) ended a b held holds → held words.plan ≡ Some bytes →
+      plan_reading bytes ≡ Ok plan → FirstOrBehind held words.plan words.captures ended → ¬ IsOfPlan ended
+  passes_so plan all is reads (inl refused) plans =
+      let e : with_plan no_tally (plan_reading bytes) ≡ Err ended =
+      told (λ x. with_plan no_tally (plan_reading x) ≡ Err ended) (held words.plan) bytes is refused in
+      let ok : with_plan no_tally (plan_reading bytes) ≡ Ok no_tally = ap (with_plan no_tally) reads in
+      cc
+  passes_so plan all is reads (inr behind) plans = not_of_plan behind.1.0 behind.1.1 ended behind.1.2 plans
+
+  of_plan_refuses : IsOfPlan ended → kind_of ended ≡ Refusing
+  of_plan_refuses (inl own) = ap kind_of own.1
+  of_plan_refuses (inr limit) = ap kind_of limit.1
+
+  -- a plan that is refused didn't pass
+  not_passed : (refusal : Status) (next : Tally) → held words.plan ≡ Some bytes → plan_reading bytes ≡ Err refusal →
+      IfSome (held words.plan) (λ x. with_plan no_tally (plan_reading x) ≡ Ok next) → ⊥
+  not_passed refusal next is reads passed =
+      let e : with_plan no_tally (plan_reading bytes) ≡ Ok next =
+      told (λ x. with_plan no_tally (plan_reading x) ≡ Ok next) (held words.plan) bytes is passed in
+      let bad : with_plan no_tally (plan_reading bytes) ≡ Err refusal = ap (with_plan no_tally) reads in
+      cc
+
+  refuses_so : (refusal : Status) → held words.plan ≡ Some bytes → plan_reading bytes ≡ Err refusal →
+      FirstOrBehind held words.plan words.captures ended → ended ≡ refusal
+  refuses_so refusal is reads (inl refused) =
+      let e : with_plan no_tally (plan_reading bytes) ≡ Err ended =
+      told (λ x. with_plan no_tally (plan_reading x) ≡ Err ended) (held words.plan) bytes is refused in
+      let bad : with_plan no_tally (plan_reading bytes) ≡ Err refusal = ap (with_plan no_tally) reads in
+      cc
+  refuses_so refusal is reads (inr behind) = absurd (not_passed refusal behind.0.0 is reads behind.0.1)
+
+  -- by kinds
+  by_kind : (refusal : Status) (kind : Kind) → kind_of ended ≡ kind → Ended (Step words) ended a b held holds →
+      held words.plan ≡ Some bytes → plan_reading bytes ≡ Err refusal → FollowsPlan ended (Err refusal)
+  by_kind refusal Whole e all is reads =
+      let passed = (all.passed (has_read_at ended Whole e tt)).passed in
+      absurd (not_passed refusal passed.0 is reads passed.1)
+  by_kind refusal Formless e all is reads = absurd (all.not_usage (formless_is ended e))
+  by_kind refusal Refusing e all is reads =
+      inl (refuses_so refusal is reads (refused_so held words ended (all.reached e)))
+  by_kind refusal Unread e all is reads = inr (inl (unread_is ended e))
+  by_kind refusal Unwritten e all is reads =
+      let passed = (all.passed (has_read_at ended Unwritten e tt)).passed in
+      absurd (not_passed refusal passed.0 is reads passed.1)
+  by_kind refusal Wanting e all is reads = inr (inr (wanting_is ended e))
+
+  by_reading : (read : Result PlainPlan Status) → plan_reading bytes ≡ read →
+      Ended (Step words) ended a b held holds →
+      held words.plan ≡ Some bytes → FollowsPlan ended read
+  by_reading (Ok plan) reads all is = λ plans.
+      passes_so plan all is reads (refused_so held words ended (all.reached (of_plan_refuses plans))) plans
+  by_reading (Err refusal) reads all is = by_kind refusal (kind_of ended) refl all is reads
+
+-- what is refused for a plan follows from its bytes
+pub follows_plan : (command : Command) (ended : Status) (a b : Faults) (held holds : Holds) (plan bytes : List ℕ) →
+    Ended command ended a b held holds → IsPlanOfCommand command plan → held plan ≡ Some bytes →
+    FollowsPlan ended (plan_reading bytes)
+follows_plan (Step words) ended a b held holds plan bytes all same is =
+    by_reading words ended a b held holds bytes (plan_reading bytes) refl all
+    (subst (λ (name : List ℕ). held name ≡ Some bytes) same is)
+
+-- no refusal carries want of memory
+pub carries_none : (command : Command) (ended : Status) (a b : Faults) (held holds : Holds) →
+    Ended command ended a b held holds →
+    (ended ≢ status.PlanBad PlanNoMemory) × ((lane : ℕ) → ended ≢ status.CaptureBad lane PcapNoMemory)
+carries_none command ended a b held holds all = (
+  λ e.
+      let is = all.reached (ap kind_of e) in
+      plan_carries is.input is.tally (subst (λ (s : Status). MayRefuse is.input is.tally s) e is.may),
+  λ lane e.
+      let is = all.reached (ap kind_of e) in
+      capture_carries is.input is.tally lane (subst (λ (s : Status). MayRefuse is.input is.tally s) e is.may),
+)
+
+-- Where no call met a fault and no input is refused the command does all, unless memory is wanting.
+module _ (command : Command) (ended : Status) (a b : Faults) (held holds : Holds) (bytes : List (List ℕ)) where
+  completes_by : (kind : Kind) → kind_of ended ≡ kind → Ended command ended a b held holds →
+      AreHeld held (input_names command) bytes → first_refusal (inputs_of command) no_tally bytes ≡ None → b ≡ a →
+      IsComplete ended
+  completes_by Whole e all are none still = inl e
+  completes_by Formless e all are none still = absurd (all.not_usage (formless_is ended e))
+  completes_by Refusing e all are none still =
+      let some : first_refusal (inputs_of command) no_tally bytes ≡ Some ended =
+      first_of held (inputs_of command) ended bytes (all.reached e) are in
+      cc
+  completes_by Unread e all are none still =
+      let rose = (all.read_fault (unread_is ended e)).rose in absurd (below_self a b _ _ still rose)
+  completes_by Unwritten e all are none still =
+      let rose = all.write_fault (unwritten_is ended e) in
+      elim (rose.2) [
+        | inl begins ↦ absurd (below_self a b _ _ still begins)
+        | inr appends ↦ absurd
+            (below_self a b _ _ still appends)
+      ]
+  completes_by Wanting e all are none still = inr (wanting_is ended e)
+
+  pub completes : Ended command ended a b held holds → AreHeld held (input_names command) bytes →
+      first_refusal (inputs_of command) no_tally bytes ≡ None → b ≡ a → IsComplete ended
+  completes all are none still = completes_by (kind_of ended) refl all are none still
+
+-- a command by what its words are
+pub ended_as : (words : List (List ℕ)) (found : PlanWords) (command : Command) (ended : Status) (a b : Faults)
+    (held holds : Holds) →
+    command_of words ≡ Some (Step found) → command_of words ≡ Some command → Ended (Step found) ended a b held holds →
+    Ended command ended a b held holds
+ended_as words found command ended a b held holds some is all =
+    let same : Step found ≡ command = cc in
+    subst (λ (x : Command). Ended x ended a b held holds) same all
