@@ -1,7 +1,8 @@
 -- An epoch of a plan, from its crew to its end.
 use Rattle.std.proofs.Common.{◌≡◌, ℕ, ◌+◌, ◌≤◌, ◌<◌, ◌^◌, Some, List, [], ◌++◌, length, map, slice_get, option_map, refl, ap, ◌∙◌, subst, arith}
 use Rattle.std.specs.List.{repeat}
-use Rattle.std.proofs.lemmas.List.{length-append, length-map}
+use Rattle.std.specs.Prelude.{replicate}
+use Rattle.std.proofs.lemmas.List.{length-append, length-map, length-replicate}
 use Rattle.std.proofs.lemmas.Option.{slice_get-map, slice_get_within}
 use Rattle.slnf_base.specs.declared.packets.Verdict.{Verdict}
 use Rattle.slnf_access.specs.declared.requests.Entry.{Entry}
@@ -19,6 +20,7 @@ use Rattle.slnf_flight.specs.declared.flights.AnyFlight.{AnyFlight}
 use Rattle.slnf_flight.specs.declared.functions.AnyFunction.{AnyFunction}
 use Rattle.slnf_flight.specs.declared.lanes.Lane.{Lane}
 use Rattle.slnf_flight.specs.Actors.{instance_actor, sweep_actors, era_of_epoch, eras_of}
+use Rattle.slnf_flight.specs.Functions.{IsFunctionOf}
 use Rattle.slnf_flight.specs.PlanSetting.{setting_of}
 use Rattle.slnf_orch.specs.declared.items.ActorItems.{ActorItems}
 use Rattle.slnf_orch.specs.Actors.{Stage, at_work, turns_in, AreStanding, AreDone, HasRoom}
@@ -26,10 +28,10 @@ use Rattle.slnf_orch.specs.Hiring.{items_work, AreHired}
 use Rattle.slnf_orch.specs.Ledger.{verdicts_at, places_in, DoStand, given_from}
 use Rattle.slnf_orch.specs.Passing.{IsUnderWay}
 use Rattle.slnf_orch.proofs.Giving.{job_there}
-use Rattle.slnf_orch.proofs.Hired.{HasEpoch, hired_job}
+use Rattle.slnf_orch.proofs.Hired.{HasEpoch, has_epoch, hired_job}
 use Rattle.slnf_orch.proofs.Places.{some_at}
 use Rattle.slnf_orch.proofs.Plain.{nobody_plain}
-use Rattle.slnf_orch.proofs.SettingOut.{stage_of, standing_first, room_first}
+use Rattle.slnf_orch.proofs.SettingOut.{stage_of, standing_first, room_first, one_number}
 use Rattle.slnf_orch.proofs.UnderWay.{era_there, so_far, passes_of, HasEnded}
 
 -- an instance's actor stands at the instance's place
@@ -56,17 +58,21 @@ module _ (plan : Plan) (lanes : List Lane) (number base : ℕ) (epoch : Epoch) (
   abbrev pub epoch_stage : Stage AnyFlight
   epoch_stage = stage_of (setting_of plan lanes) number base (places_in ledger) (era_of_epoch epoch)
 
-  -- the crew stands before its first access
-  pub crew_stands : (function : AnyFunction) (crew : List (Acting ActorItems AnyFlight)) (clocks : List ℕ) →
-      HasEpoch plan lanes number base epoch function →
+  -- the crew stands before its first access, each actor with the greatest stamp as its clock
+  pub crew_stands : (function : AnyFunction) (crew : List (Acting ActorItems AnyFlight)) (clocks : List ℕ)
+      (count now : ℕ) → slice_get plan.epochs number ≡ Some epoch →
+      IsFunctionOf plan.function (slice_get plan.epochs number) function →
       AreHired plan function lanes (places_in ledger) base epoch crew →
-      length crew ≡ length (era_of_epoch epoch).actors → length clocks ≡ length (era_of_epoch epoch).actors →
-      ((k c : ℕ) → slice_get clocks k ≡ Some c → c ≡ greatest_last histories) →
+      length crew ≡ length (era_of_epoch epoch).actors → count ≡ length crew → clocks ≡ replicate count now →
+      now ≡ greatest_last histories →
       AreStanding items_work epoch_stage h.list (at_work base histories crew clocks)
-  crew_stands function crew clocks e hired count clocks_count clocked =
+  crew_stands function crew clocks count now at of hired crew_count count_is clocks_are now_is =
+      let e : HasEpoch plan lanes number base epoch function =
+      has_epoch plan lanes number base epoch function at h.base_is of in
       standing_first items_work (setting_of plan lanes) h.list number base (places_in ledger) (era_of_epoch epoch)
-      histories crew clocks h.ready e.base_is (era_there plan number epoch e.at) count clocks_count clocked
-      is_first_clock
+      histories crew clocks h.ready e.base_is (era_there plan number epoch e.at) crew_count
+      (ap length clocks_are ∙ (length-replicate count now ∙ (count_is ∙ crew_count)))
+      (λ k x there. one_number clocks count now clocks_are k x there ∙ now_is) is_first_clock
       (λ k i actor i_at actor_at.
       let w = hired k i actor i_at actor_at in
       subst (λ job. StandsBy items_work job [] i)

@@ -26,19 +26,6 @@ use Rattle.slnf_flight.specs.AnyFunction.{any_machine}
 use Rattle.slnf_flight.specs.Functions.{any_behaviour, step_as, IsFunctionOf}
 use Rattle.slnf_orch.specs.FunctionMachine.{function_machine}
 
--- what a flight asks, whatever it is of
-pub asks_same : (function : AnyFunction) (flight : AnyFlight) → (any_behaviour function).asks flight
-    ≡ (function_machine function).asks flight
-asks_same (AnyNat function) (NatFlies flight) = refl
-asks_same (AnyNat function) (FwFlies flight) = refl
-asks_same (AnyNat function) (LbFlies flight) = refl
-asks_same (AnyFirewall function) (NatFlies flight) = refl
-asks_same (AnyFirewall function) (FwFlies flight) = refl
-asks_same (AnyFirewall function) (LbFlies flight) = refl
-asks_same (AnyBalancer function) (NatFlies flight) = refl
-asks_same (AnyBalancer function) (FwFlies flight) = refl
-asks_same (AnyBalancer function) (LbFlies flight) = refl
-
 -- the machine is the plan's
 pub machine_is : (plan : FunctionPlan) (epoch : Option Epoch) (function : AnyFunction) →
     IsFunctionOf plan epoch function → any_machine plan ≡ function_machine function

@@ -7,7 +7,6 @@ mod Functions
 mod Giving
 mod Handing
 mod Hired
-mod LaneCounts
 mod Leaving
 mod Making
 mod Places

@@ -6,9 +6,9 @@ use crate::crews::{crew_of, hand_over, items_of};
 use crate::ledger::Ledger;
 use crate::turns::{rounds, turns_by};
 use slnf_base::NoMemory;
-use slnf_flight::{AnyFunction, Lane, function_is_plans};
+use slnf_flight::{AnyFunction, Lane};
 use slnf_plan::Plan;
-use slnf_setting::{know_types, plan_begins_so, plan_has_one_box, plan_passes_few};
+use slnf_setting::{know_types, plan_has_one_box, plan_passes_few};
 use slnf_shards::Shards;
 use std::alloc::Global;
 
@@ -31,8 +31,6 @@ pub(crate) fn run_epoch(
     ensures under_way { IfOk result (λ next. IsUnderWay plan.now lanes.now (number + 1) next shards.new ledger.new) }
 {
     know_types(plan);
-    function_is_plans();
-    plan_begins_so();
     plan_has_one_box();
     plan_passes_few();
     let function = AnyFunction::of(alloc, plan, number)?;

@@ -28,6 +28,7 @@ pub record IsPutBack (buckets : List Bucketed) (k : ℕ) (histories : List (List
   pub spends : OnOk r (spent histories < spent (histories_of (set buckets k new)))
   pub most : OnOk r (spent (histories_of (set buckets k new)) ≤ length (histories_of (set buckets k new)) * 2 ^ 62)
   pub unchanged : OnErr r (histories_of (set buckets k new) ≡ histories)
+  pub count : length (histories_of (set buckets k new)) ≡ length histories
 
 pub put_back : (buckets : List Bucketed) (k : ℕ) (histories : List (List Entry)) (clock incarnation item : ℕ)
     (request : Request) (old new : Bucketed) (r : Result (Reply × ℕ) BucketError) → IsLent buckets k request old →
@@ -45,14 +46,18 @@ put_back buckets k histories clock incarnation item request old new (Ok answer) 
       spends = subst (λ hs. spent hs < spent (histories_of (set buckets k new))) view access.spends;
       most = access.most;
       unchanged = tt;
+      count = access.count ∙ ap length view;
     }
 put_back buckets k histories clock incarnation item request old new (Err e) lent view made stamp below unchanged =
+    let same : histories_of (set buckets k new) ≡ histories =
+    unchanged_histories buckets k request old lent new unchanged ∙ view in
     record {
       sharded = unchanged_back buckets k request old lent new unchanged;
       made = tt;
       spends = tt;
       most = tt;
-      unchanged = unchanged_histories buckets k request old lent new unchanged ∙ view;
+      unchanged = same;
+      count = ap length same;
     }
 
 -- the bucket's entry and clocks are the histories'

@@ -1,7 +1,6 @@
 -- the epoch's crew passes it, and the run goes on behind it
 use Rattle.std.proofs.Common.{◌≡◌, ◌+◌, ◌≤◌, ◌<◌, ◌++◌, ◌∙◌, true, ℕ, List, length, slice_get, nat_lt, sym, ap, subst, arith}
 use Rattle.std.specs.List.{list_all}
-use Rattle.std.proofs.lemmas.List.{length-replicate}
 use Rattle.slnf_plan.specs.declared.plan.Epoch.{Epoch}
 use Rattle.slnf_plan.specs.declared.plan.InstancePlan.{InstancePlan}
 use Rattle.slnf_plan.specs.Ranges.{actor_count}
@@ -18,10 +17,8 @@ use Rattle.slnf_orch.specs.Ledger.{verdicts_at, places_in, DoStand, given_from}
 use Rattle.slnf_orch.specs.Passing.{IsUnderWay}
 use Rattle.slnf_orch.proofs.EpochPasses.{instance_at, instances_most, epoch_stage, crew_stands, crew_has_room, end_list, end_stands, has_ended}
 use Rattle.slnf_orch.proofs.Giving.{job_there}
-use Rattle.slnf_orch.proofs.Hired.{HasEpoch, has_epoch}
 use Rattle.slnf_orch.proofs.PlanEpochs.{is_epoch, lanes_few, actors_count}
 use Rattle.slnf_orch.proofs.Pushes.{at_index}
-use Rattle.slnf_orch.proofs.SettingOut.{one_number}
 use Rattle.slnf_orch.proofs.UnderWay.{era_there, under_way_next}
 use Rattle.slnf_orch.proofs.epochs.run_epoch.Goals as goal
 
@@ -59,28 +56,19 @@ turns_by-requires-clause-room c =
     c.requires.under_way in
     let at = at_index plan.epochs c.as_slice.result.now c.args.number epoch c.as_slice.ensures
     c.requires.there c.index-as_slice-number.is in
-    let e : HasEpoch plan lanes c.args.number c.args.base epoch c.in_ok-function.function =
-    has_epoch plan lanes c.args.number c.args.base epoch c.in_ok-function.function at h.base_is
-    c.in_ok-function.ensures (c.plan_begins_so.ensures.machine plan lanes)
-    (λ o of i item packet. c.function_is_plans.ensures.starts plan.function o c.in_ok-function.function of i item packet)
-    (λ k item i there. c.plan_begins_so.ensures.instance plan lanes c.args.number k item epoch i at there)
-    (λ item pool stop is sweeps.
-    c.plan_begins_so.ensures.sweep plan lanes c.args.number item epoch pool stop is at sweeps) in
     let crew_count : length c.in_ok-crew.crew.items ≡ length (era_of_epoch epoch).actors =
     c.in_ok-crew.ensures.count ∙ (ap length c.as_slice-2.ensures.value ∙ c.in_ok-items.ensures.count) in
     let len : c.len-count.result ≡ length c.in_ok-crew.crew.items =
     omega (arith, c.len-count.ensures, c.in_ok-crew.crew.ok) in
-    let clocks = c.in_ok-clocks.ensures.items_if_clones_equal (λ y same. same) in
-    let clocks_count : length c.in_ok-clocks.clocks.items ≡ length (era_of_epoch epoch).actors =
-    ap length clocks ∙ (length-replicate _ _ ∙ (len ∙ crew_count)) in
     crew_has_room plan lanes c.args.number c.args.base epoch c.args.shards.now c.args.ledger.now h
     c.in_ok-crew.crew.items c.in_ok-clocks.clocks.items at
     (crew_stands plan lanes c.args.number c.args.base epoch c.args.shards.now c.args.ledger.now h
-    c.in_ok-function.function c.in_ok-crew.crew.items c.in_ok-clocks.clocks.items e
+    c.in_ok-function.function c.in_ok-crew.crew.items c.in_ok-clocks.clocks.items c.len-count.result c.latest.result at
+    c.in_ok-function.ensures
     (c.in_ok-crew.ensures.hired c.in_ok-function.function lanes c.args.base
     (λ k item actor item_at actor_at. c.in_ok-items.ensures.each k item actor
-    (ap (λ l. slice_get l k) (sym c.as_slice-2.ensures.value) ∙ item_at) actor_at)) crew_count clocks_count
-    (λ k x there. one_number c.in_ok-clocks.clocks.items _ c.latest.result clocks k x there ∙ c.latest.ensures.value))
+    (ap (λ l. slice_get l k) (sym c.as_slice-2.ensures.value) ∙ item_at) actor_at)) crew_count len
+    (c.in_ok-clocks.ensures.items_if_clones_equal (λ y same. same)) c.latest.ensures.value)
     (λ m made. c.plan_passes_few.ensures.fewer plan lanes c.args.number c.args.base (places_in c.args.ledger.now) m
     c.know_types.ensures c.requires.few_packets made)
 
@@ -103,28 +91,19 @@ returns-clause-under_way c =
     c.requires.under_way in
     let at = at_index plan.epochs c.as_slice.result.now c.args.number epoch c.as_slice.ensures
     c.requires.there c.index-as_slice-number.is in
-    let e : HasEpoch plan lanes c.args.number c.args.base epoch c.in_ok-function.function =
-    has_epoch plan lanes c.args.number c.args.base epoch c.in_ok-function.function at h.base_is
-    c.in_ok-function.ensures (c.plan_begins_so.ensures.machine plan lanes)
-    (λ o of i item packet. c.function_is_plans.ensures.starts plan.function o c.in_ok-function.function of i item packet)
-    (λ k item i there. c.plan_begins_so.ensures.instance plan lanes c.args.number k item epoch i at there)
-    (λ item pool stop is sweeps.
-    c.plan_begins_so.ensures.sweep plan lanes c.args.number item epoch pool stop is at sweeps) in
-    let len : c.len-count.result ≡ length c.in_ok-crew.crew.items =
-    omega (arith, c.len-count.ensures, c.in_ok-crew.crew.ok) in
     let crew_count : length c.in_ok-crew.crew.items ≡ length (era_of_epoch epoch).actors =
     c.in_ok-crew.ensures.count ∙ (ap length c.as_slice-2.ensures.value ∙ c.in_ok-items.ensures.count) in
-    let clocks = c.in_ok-clocks.ensures.items_if_clones_equal (λ y same. same) in
-    let clocks_count : length c.in_ok-clocks.clocks.items ≡ length (era_of_epoch epoch).actors =
-    ap length clocks ∙ (length-replicate _ _ ∙ (len ∙ crew_count)) in
+    let len : c.len-count.result ≡ length c.in_ok-crew.crew.items =
+    omega (arith, c.len-count.ensures, c.in_ok-crew.crew.ok) in
     let stage : Stage AnyFlight =
     epoch_stage plan lanes c.args.number c.args.base epoch c.args.shards.now c.args.ledger.now h in
     let first = crew_stands plan lanes c.args.number c.args.base epoch c.args.shards.now c.args.ledger.now h
-    c.in_ok-function.function c.in_ok-crew.crew.items c.in_ok-clocks.clocks.items e
+    c.in_ok-function.function c.in_ok-crew.crew.items c.in_ok-clocks.clocks.items c.len-count.result c.latest.result at
+    c.in_ok-function.ensures
     (c.in_ok-crew.ensures.hired c.in_ok-function.function lanes c.args.base
     (λ k item actor item_at actor_at. c.in_ok-items.ensures.each k item actor
-    (ap (λ l. slice_get l k) (sym c.as_slice-2.ensures.value) ∙ item_at) actor_at)) crew_count clocks_count
-    (λ k x there. one_number c.in_ok-clocks.clocks.items _ c.latest.result clocks k x there ∙ c.latest.ensures.value) in
+    (ap (λ l. slice_get l k) (sym c.as_slice-2.ensures.value) ∙ item_at) actor_at)) crew_count len
+    (c.in_ok-clocks.ensures.items_if_clones_equal (λ y same. same)) c.latest.ensures.value in
     let turned : AreStanding items_work stage (turns_in stage epoch.schedule h.list)
     (at_work c.args.base c.turns_by.new.shards c.turns_by.new.instances.items c.turns_by.new.clocks.items) =
     subst (λ l. AreStanding items_work stage (turns_in stage l h.list)

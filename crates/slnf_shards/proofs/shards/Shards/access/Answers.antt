@@ -27,63 +27,25 @@ invariant_of-self c =
     c.access.ensures.made c.access.ensures.stamp c.access.ensures.below c.access.ensures.unchanged in
     back.sharded
 
-pub returns-clause-made : goal.returns-clause-made
-returns-clause-made c =
+pub returns : goal.returns
+returns c =
     let count : c.len.result ≡ length c.self.inside.buckets.items = omega arith in
     let lent = lend c.self.inside.buckets.items _ _ c.args.request _ c.self.invariant c.key.ensures count
     c.index_mut-bucket.ensures.value in
     let back = put_back _ _ _ c.args.clock c.args.incarnation c.args.item _ _ _ c.access.result lent c.self.view_is
     c.access.ensures.made c.access.ensures.stamp c.access.ensures.below c.access.ensures.unchanged in
-    back.made
-
-pub returns-clause-spends : goal.returns-clause-spends
-returns-clause-spends c =
-    let count : c.len.result ≡ length c.self.inside.buckets.items = omega arith in
-    let lent = lend c.self.inside.buckets.items _ _ c.args.request _ c.self.invariant c.key.ensures count
-    c.index_mut-bucket.ensures.value in
-    let back = put_back _ _ _ c.args.clock c.args.incarnation c.args.item _ _ _ c.access.result lent c.self.view_is
-    c.access.ensures.made c.access.ensures.stamp c.access.ensures.below c.access.ensures.unchanged in
-    back.spends
-
-pub returns-clause-most : goal.returns-clause-most
-returns-clause-most c =
-    let count : c.len.result ≡ length c.self.inside.buckets.items = omega arith in
-    let lent = lend c.self.inside.buckets.items _ _ c.args.request _ c.self.invariant c.key.ensures count
-    c.index_mut-bucket.ensures.value in
-    let back = put_back _ _ _ c.args.clock c.args.incarnation c.args.item _ _ _ c.access.result lent c.self.view_is
-    c.access.ensures.made c.access.ensures.stamp c.access.ensures.below c.access.ensures.unchanged in
-    back.most
-
-pub returns-clause-unchanged : goal.returns-clause-unchanged
-returns-clause-unchanged c =
-    let count : c.len.result ≡ length c.self.inside.buckets.items = omega arith in
-    let lent = lend c.self.inside.buckets.items _ _ c.args.request _ c.self.invariant c.key.ensures count
-    c.index_mut-bucket.ensures.value in
-    let back = put_back _ _ _ c.args.clock c.args.incarnation c.args.item _ _ _ c.access.result lent c.self.view_is
-    c.access.ensures.made c.access.ensures.stamp c.access.ensures.below c.access.ensures.unchanged in
-    back.unchanged
-
-pub returns-clause-reply : goal.returns-clause-reply
-returns-clause-reply c =
-    let count : c.len.result ≡ length c.self.inside.buckets.items = omega arith in
-    let lent = lend c.self.inside.buckets.items _ _ c.args.request _ c.self.invariant c.key.ensures count
-    c.index_mut-bucket.ensures.value in
     let same = same_entry _ _ _ c.args.clock c.args.incarnation c.args.item _ _ lent c.self.view_is in
-    subst (λ (e : Entry). IfOk c.access.result (λ answer. answer.0 ≡ e.reply)) same c.access.ensures.reply
-
-pub returns-clause-stamp : goal.returns-clause-stamp
-returns-clause-stamp c =
-    let count : c.len.result ≡ length c.self.inside.buckets.items = omega arith in
-    let lent = lend c.self.inside.buckets.items _ _ c.args.request _ c.self.invariant c.key.ensures count
-    c.index_mut-bucket.ensures.value in
-    let same = same_entry _ _ _ c.args.clock c.args.incarnation c.args.item _ _ lent c.self.view_is in
-    subst (λ (e : Entry). IfOk c.access.result (λ answer. answer.1 ≡ e.stamp)) same c.access.ensures.stamp
-
-pub returns-clause-stamps_spent : goal.returns-clause-stamps_spent
-returns-clause-stamps_spent c last =
-    let count : c.len.result ≡ length c.self.inside.buckets.items = omega arith in
-    let lent = lend c.self.inside.buckets.items _ _ c.args.request _ c.self.invariant c.key.ensures count
-    c.index_mut-bucket.ensures.value in
-    let same = same_latest _ _ _ c.args.clock _ _ lent c.self.view_is in
-    subst (λ (n : ℕ). (c.access.result ≡ Err (StampsSpent last)) ↔ ((last ≡ n) × (last ≡ 4611686018427387903))) same
-    (c.access.ensures.spent last)
+    record {
+      made = back.made;
+      reply = subst (λ (e : Entry). IfOk c.access.result (λ answer. answer.0 ≡ e.reply)) same c.access.ensures.reply;
+      stamp = subst (λ (e : Entry). IfOk c.access.result (λ answer. answer.1 ≡ e.stamp)) same c.access.ensures.stamp;
+      below = c.access.ensures.below;
+      can = c.access.ensures.can;
+      stamps_spent = λ last. subst (λ (n : ℕ). (c.access.result ≡ Err (StampsSpent last)) ↔ ((last ≡ n)
+          × (last ≡ 4611686018427387903))) (same_latest _ _ _ c.args.clock _ _ lent c.self.view_is)
+          (c.access.ensures.spent last);
+      unchanged = back.unchanged;
+      spends = back.spends;
+      most = back.most;
+      count = back.count;
+    }

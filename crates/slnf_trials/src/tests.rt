@@ -3,12 +3,13 @@ ghost use Rattle.std.specs.List.{list_all};
 ghost use Rattle.slnf_flight.specs.Lanes.{packet_count};
 ghost use Rattle.slnf_flight.specs.Ranges.{is_taken};
 
-use crate::cases::{BALANCER, CASES, NAT, NAT_OF_TWO};
-use crate::step_plan;
+use crate::cases::{BALANCER, CASES, NAT, NAT_OF_TWO, SWEPT};
 use slnf_access::{Entry, Key, Reply, Request, Value};
 use slnf_base::{Change, Packet, Pair, Proto, Reason, Row, Verdict};
 use slnf_flight::{Lane, Outcome, Taken};
+use slnf_orch::step_plan;
 use slnf_plan::{Plan, read_plan};
+use slnf_verdicts::verdicts_of;
 use std::alloc::{AllocError, Global};
 use std::hash::RandomState;
 use std::test::Fail;
@@ -135,6 +136,7 @@ fn dropped(reason: &Reason) -> char {
         Reason::NoPort => 'O',
         Reason::NoFlow => 'N',
         Reason::NoConn => 'C',
+        Reason::DeniedState => 'S',
         Reason::NotPinned => 'P',
         _ => '?',
     }
@@ -201,15 +203,42 @@ fn run(
     Ok(step_plan(alloc, state, &plan, lanes.as_slice())?)
 }
 
+/// What becomes of each packet as the loops tell it and as the journal alone does, and how many accesses were made.
+#[derive(Drop)]
+struct Told {
+    by_loops: String,
+    by_journal: String,
+    entries: usize,
+}
+
+/// Runs a plan over the lanes of a text, and reads the verdicts again off the journal.
+fn run_and_read(
+    alloc: Global,
+    state: RandomState,
+    plan: &str,
+    epochs: &str,
+    lanes: &str,
+) -> Result<Told, Fail> {
+    let plan = plan_of(alloc, plan, epochs)?;
+    let lanes = lanes_of(alloc, lanes)?;
+    let outcome = step_plan(alloc, state, &plan, lanes.as_slice())?;
+    let verdicts = verdicts_of(alloc, &plan, lanes.as_slice(), outcome.journal.as_slice())?;
+    Ok(Told {
+        by_loops: letters(alloc, outcome.verdicts.as_slice())?,
+        by_journal: letters(alloc, verdicts.as_slice())?,
+        entries: outcome.journal.len(),
+    })
+}
+
 #[test]
 fn worked_runs_end_so(rt: HostRuntime) -> Result<(), Fail> {
     let alloc = rt.alloc();
     for case in CASES.iter() {
         let state = RandomState::new(&rt)?;
-        let outcome = run(alloc, state, case.plan, case.epochs, case.lanes)?;
-        let told = letters(alloc, outcome.verdicts.as_slice())?;
-        assert_eq!(rt; told.as_str(), case.verdicts);
-        assert_eq!(rt; outcome.journal.len(), case.entries);
+        let told = run_and_read(alloc, state, case.plan, case.epochs, case.lanes)?;
+        assert_eq!(rt; told.by_loops.as_str(), case.verdicts);
+        assert_eq!(rt; told.by_journal.as_str(), case.verdicts);
+        assert_eq!(rt; told.entries, case.entries);
     }
     Ok(())
 }
@@ -303,9 +332,7 @@ fn two_first_packets_of_a_flow_agree(rt: HostRuntime) -> Result<(), Fail> {
 #[test]
 fn a_sweep_takes_an_orphan_away(rt: HostRuntime) -> Result<(), Fail> {
     let state = RandomState::new(&rt)?;
-    let epochs =
-        "shards = 1\nepoch = [{ instances = [{ lane = 0, stop = 2 }] }, { instances = [{ lane = 1 }], sweep = true, schedule = [0, 0, 1, 1, 1, 1, 0] }]";
-    let outcome = run(rt.alloc(), state, NAT_OF_TWO, epochs, "s|t")?;
+    let outcome = run(rt.alloc(), state, NAT_OF_TWO, SWEPT, "s|t")?;
     let expected = [
         entry([1, 0, 0], read(FLOW), Reply::Absent),
         entry([2, 0, 0], put(SECOND_PORT, CLAIM), Reply::Done(2)),
