@@ -1,0 +1,5 @@
+pub mod Laws
+mod Coding
+mod Dealing
+mod Setting
+mod Taking

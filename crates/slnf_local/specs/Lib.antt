@@ -1,0 +1,8 @@
+pub mod Local
+pub mod Rules
+pub mod Hands
+pub mod Followers
+pub mod Cuts
+pub mod Tells
+pub mod Tests
+pub mod Passes
