@@ -130,3 +130,35 @@ fn a_flow_keeps_its_pair(rt: HostRuntime) -> Result<(), Fail> {
     assert_eq!(rt; nat.owner(Proto::Udp, PORT), None);
     Ok(())
 }
+
+/// What goes out and comes back, with the pool's second port, and what comes to its third.
+#[test]
+fn a_box_alone(rt: HostRuntime) -> Result<(), Fail> {
+    let pool = Pool {
+        inside: INSIDE,
+        outside: PORT.addr,
+        low: 40000,
+        high: 40003,
+    };
+    let chosen = Pair {
+        addr: PORT.addr,
+        port: 40001,
+    };
+    let other = Pair {
+        addr: PORT.addr,
+        port: 40002,
+    };
+    let mut nat = NatBox::make(rt.alloc(), pool);
+    let from_chosen = Verdict::Emit(Change::Source(chosen));
+    let to_host = Verdict::Emit(Change::Dest(HOST));
+    let no_flow = Verdict::Dropped(Reason::NoFlow);
+    assert_eq!(rt;
+        nat.handle(&tcp(HOST, SERVER, 2), Some(chosen))?,
+        from_chosen
+    );
+    assert_eq!(rt; nat.pair_of(Proto::Tcp, HOST), Some(chosen));
+    assert_eq!(rt; nat.owner(Proto::Tcp, chosen), Some(HOST));
+    assert_eq!(rt; nat.handle(&tcp(SERVER, chosen, 18), None)?, to_host);
+    assert_eq!(rt; nat.handle(&tcp(SERVER, other, 18), None)?, no_flow);
+    Ok(())
+}

@@ -1,5 +1,6 @@
 -- What a worked run says: of a plan with this function and these epochs, over these lanes.
-use Rattle.std.specs.Prelude.{◌≡◌, ℕ, Some, None, List, slice_get}
+use Rattle.std.specs.Prelude.{◌≡◌, ℕ, IsTrue, Some, None, List, [], ◌∷◌, slice_get}
+use Rattle.std.specs.List.{list_all}
 use Rattle.slnf_base.specs.declared.packets.Verdict.{Verdict}
 use Rattle.slnf_access.specs.declared.requests.Entry.{Entry}
 use Rattle.slnf_access.specs.declared.requests.Request.{Request}
@@ -15,6 +16,8 @@ use Rattle.slnf_run.specs.Visits.{Visit, visits_of}
 use Rattle.slnf_run.specs.Scheduled.{usual_way, IsScheduled}
 use Rattle.slnf_run.specs.Verdicts.{verdicts_of}
 use Rattle.slnf_flight.specs.declared.lanes.Lane.{Lane}
+use Rattle.slnf_flight.specs.declared.lanes.Taken.{Taken}
+use Rattle.slnf_flight.specs.Ranges.{is_taken}
 use Rattle.slnf_flight.specs.Actors.{eras_of}
 use Rattle.slnf_flight.specs.Flights.{Arrival}
 use Rattle.slnf_flight.specs.PlanSetting.{setting_of}
@@ -27,6 +30,21 @@ pub record Row : Type 0 where
   pub lanes : List Lane
   pub journal : List Entry
   pub verdicts : List (List Verdict)
+
+-- a row with one shard, whose packets go one by one
+abbrev pub row_of : List Epoch → List Lane → List Entry → List (List Verdict) → Row
+row_of epochs lanes journal verdicts = record {
+  shards = 1;
+  batch = 1;
+  epochs = epochs;
+  lanes = lanes;
+  journal = journal;
+  verdicts = verdicts;
+}
+
+-- a lane of packets whose numbers are in the ranges of their types
+abbrev pub lane_of : (packets : List Taken) → IsTrue (list_all is_taken packets) → Lane
+lane_of packets fits = record { packets = packets; in_range = fits }
 
 -- The plan is the row's, and its function is one of these.
 pub record IsPlanOf (IsOf : FunctionPlan → Type 0) (row : Row) (plan : Plan) : Type 0 where
@@ -62,6 +80,14 @@ with_stop lane stop = record { lane = lane; quota = None; stop = Some stop }
 abbrev pub epoch_of : List InstancePlan → List ℕ → List ℕ → Epoch
 epoch_of instances active schedule =
     record { instances = instances; active = active; sweep = No; schedule = schedule }
+
+-- one epoch of an instance of lane 0 with these active backends, and one of instances of the lanes 0 and 1 that take
+-- such turns
+abbrev pub one_instance : List ℕ → List Epoch
+one_instance active = epoch_of (on_lane 0 ∷ []) active [] ∷ []
+
+abbrev pub two_instances : List ℕ → List ℕ → List Epoch
+two_instances active schedule = epoch_of (on_lane 0 ∷ on_lane 1 ∷ []) active schedule ∷ []
 
 -- an entry in this shard, and one in shard 0
 abbrev pub entry_in : (shard stamp incarnation item : ℕ) → Request → Reply → Entry
