@@ -1,13 +1,16 @@
 #!/usr/bin/env bash
 # Times `slnf step` (crates/slnf, as `rt ci` builds it) beside bench/step_plain.cpp, which does the same job on std's hash map and
-# has to write the same bytes. The words: how many runs each, 3 where none is given, and then a text that the rows to be run begin
-# with. For each row it prints clock and processor seconds, the peak of memory in kB, and bytes of that peak an entry.
+# has to write the same bytes. The words: how many runs each, 3 where none is given, then a text that the rows to be run begin
+# with, and a file for the rows. SLNF names another program than the built one. For each row it prints clock and processor
+# seconds, how often the proved program's clock time is the plain one's, its nanoseconds of clock time a packet, both peaks of
+# memory, and of the proved program's peak the bytes an entry, all and beside input, outputs and texts. Then it prints the bars.
 set -eu
 runs=${1:-3}
 only=${2:-}
 top=$(cd "$(dirname "$0")/.." && pwd)
-proved=$top/crates/slnf/out/slnf
+proved=${SLNF:-$top/crates/slnf/out/slnf}
 folder=$(mktemp -d)
+rows=${3:-$folder/rows}
 trap 'rm -rf "$folder"' EXIT
 if [ ! -x "$proved" ]; then
     echo "step.sh: crates/slnf isn't built: 'rt ci' builds it, and so does './slnf'" >&2
@@ -17,8 +20,11 @@ for program in step_plain step_input measure; do
     "${CXX:-c++}" -std=c++17 -O2 -o "$folder/$program" "$top/bench/$program.cpp"
 done
 mkdir "$folder/in" "$folder/proved" "$folder/plain"
+: >"$rows"
 
-# One row: function, packets, flows, shards, instances, batch, epochs.
+bytes_in() { stat -c %s "$@" | awk '{ all += $1 } END { print all }'; }
+
+# One row: load, packets, flows, shards, instances, batch, epochs.
 row() {
     case "$*" in "$only"*) ;; *) return ;; esac
     rm -f "$folder"/in/* "$folder"/proved/* "$folder"/plain/*
@@ -32,13 +38,38 @@ row() {
         exit 1
     fi
     entries=$(($(wc -l <"$folder/proved/o.journal") - 1))
-    printf '%-9s %8d %6d %3d %3d %3d %5d %9d  %7.3f %7.3f  %7.3f %7.3f  %8d %8d  %5d\n' "$@" "$entries" \
-        "$clock" "$plain_clock" "$processor" "$plain_processor" "$memory" "$plain_memory" $((memory * 1024 / (entries + 1)))
+    files=$(bytes_in "$folder"/in/* "$folder"/proved/*)
+    echo "$@" "$entries" "$clock" "$plain_clock" "$processor" "$plain_processor" "$memory" "$plain_memory" "$files" |
+        awk '{
+            printf "%-9s %8d %6d %3d %3d %3d %5d %9d  %7.3f %7.3f  %7.3f %7.3f  %5.2f %6.0f  %7d %7d  %5d %5d\n", $1, $2, $3, $4, $5, $6, $7, $8,
+                $9, $10, $11, $12, $9 / $10, $9 * 1e9 / $2, $13, $14, $13 * 1024 / ($8 + 1), ($13 * 1024 - $15) / ($8 + 1)
+        }' | tee -a "$rows"
 }
 
-printf '%-9s %8s %6s %3s %3s %3s %5s %9s  %15s  %15s  %17s  %5s\n' function packets flows '' '' '' '' '' clock processor 'memory, kB' ''
-printf '%-9s %8s %6s %3s %3s %3s %5s %9s  %7s %7s  %7s %7s  %8s %8s  %5s\n' '' '' '' shs ins bat epoch entries \
-    proved plain proved plain proved plain bytes
+# The bars, over the rows that were run.
+bars() {
+    awk '
+        function most(old, new) { return old == "" || new > old ? new : old }
+        { setting = $1 " " $3 " " $4 " " $5 " " $6 " " $7; packet[setting " " $2] = $14 }
+        $2 >= 1000000 {
+            ratio = most(ratio, $13)
+            beside = most(beside, $18)
+            before = packet[setting " " 100000]
+            if (before) growth = most(growth, $14 / before)
+        }
+        END {
+            if (ratio != "") printf "clock at 1000000 packets or more, over the plain program, at most: %.2f (bar 1.60)\n", ratio
+            if (growth != "") printf "clock a packet at 1000000 packets over that at 100000, at most:     %.2f (bar 1.30)\n", growth
+            if (beside != "") printf "bytes of the peak an entry beside files, at most:                  %d (bar 400)\n", beside
+            others = packet["balancer 2048 1 1 1 1 1000000"]
+            meets = packet["colliding 2048 1 1 1 1 1000000"]
+            if (others && meets) printf "clock of clients that collide, over others:                        %.2f\n", meets / others
+        }' "$rows"
+}
+
+printf '%-9s %8s %6s %3s %3s %3s %5s %9s  %15s  %15s  %5s %6s  %15s  %11s\n' load packets flows '' '' '' '' '' clock processor over ns/pkt 'memory, kB' 'bytes/entry'
+printf '%-9s %8s %6s %3s %3s %3s %5s %9s  %7s %7s  %7s %7s  %5s %6s  %7s %7s  %5s %5s\n' '' '' '' shs ins bat epoch entries \
+    proved plain proved plain plain '' proved plain all beside
 for function in balancer nat firewall; do
     for packets in 10000 100000 1000000; do
         row "$function" "$packets" 1000 1 1 1 1
@@ -48,3 +79,13 @@ for function in balancer nat firewall; do
     row "$function" 1000000 16384 64 1 1 1
     row "$function" 100000 1000 8 32 1 1000
 done
+# Packets that come back, one hot flow, a nearly full pool, 32 instances and wide frames.
+row returns 1000000 1000 8 8 32 1
+row firewall 1000000 1 64 32 32 1
+row full 1000000 1020 64 8 32 1
+row nat 1000000 16384 64 32 32 1
+row wide 160000 1000 64 4 32 1
+# Clients that meet in one group of a map with the fixed seed, and others as many.
+row balancer 1000000 2048 1 1 1 1
+row colliding 1000000 2048 1 1 1 1
+bars

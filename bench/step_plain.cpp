@@ -10,9 +10,10 @@
 #include <cstdlib>
 #include <cstring>
 #include <fstream>
-#include <iterator>
+#include <functional>
 #include <map>
 #include <optional>
+#include <queue>
 #include <string>
 #include <string_view>
 #include <unordered_map>
@@ -418,13 +419,28 @@ class Store {
 
     uint64_t latest() const { return *std::max_element(last.begin(), last.end()); }
 
+    // The histories, each of which is sorted, merged by stamp and shard.
     std::vector<Entry> journal() {
+        size_t count = 0;
+        for (const auto &history : histories) count += history.size();
         std::vector<Entry> all;
-        for (auto &history : histories) {
-            all.insert(all.end(), history.begin(), history.end());
-            std::vector<Entry>().swap(history);
+        all.reserve(count);
+        using Front = std::pair<uint64_t, uint32_t>; // stamp and shard
+        std::priority_queue<Front, std::vector<Front>, std::greater<>> fronts;
+        std::vector<size_t> next(histories.size(), 0);
+        for (uint32_t shard = 0; shard < histories.size(); shard++)
+            if (!histories[shard].empty()) fronts.push({histories[shard][0].stamp, shard});
+        while (!fronts.empty()) {
+            uint32_t shard = fronts.top().second;
+            fronts.pop();
+            const auto &history = histories[shard];
+            size_t &at = next[shard];
+            // The run of this shard up to the next front.
+            do all.push_back(history[at++]);
+            while (at < history.size() && (fronts.empty() || Front{history[at].stamp, shard} < fronts.top()));
+            if (at < history.size()) fronts.push({history[at].stamp, shard});
         }
-        std::stable_sort(all.begin(), all.end(), [](const Entry &a, const Entry &b) { return a.stamp < b.stamp; });
+        histories.clear();
         return all;
     }
 
@@ -714,6 +730,7 @@ struct Actor {
     uint64_t made = 0;  // accesses
     uint64_t first = 0; // the batch in hand begins here
     std::vector<std::optional<Flight>> batch{};
+    std::vector<Number> keys{}; // the first keys of the batch
     std::vector<Turn> round{};
     size_t turn = 0;
 
@@ -758,7 +775,7 @@ struct Actor {
     void take() {
         first = next;
         batch.clear();
-        std::vector<Number> keys;
+        keys.clear();
         size_t most = records ? plan.batch : 1;
         while (next < end && batch.size() < most) {
             Next how = begins(next);
@@ -901,13 +918,16 @@ static void add_entry(Bytes &out, const Entry &e) {
 
 static Bytes journal_text(const std::vector<Entry> &journal) {
     Bytes out = "slnf journal 1\n";
-    out.reserve(out.size() + journal.size() * 100);
+    out.reserve(out.size() + journal.size() * 128);
     for (const Entry &entry : journal) add_entry(out, entry);
     return out;
 }
 
 static Bytes verdicts_text(const std::vector<std::vector<Outcome>> &outcomes) {
     Bytes out = "slnf verdicts 1\n";
+    size_t packets = 0;
+    for (const auto &lane : outcomes) packets += lane.size();
+    out.reserve(out.size() + packets * 48);
     for (size_t lane = 0; lane < outcomes.size(); lane++) {
         for (size_t number = 0; number < outcomes[lane].size(); number++) {
             const Outcome &outcome = outcomes[lane][number];
@@ -929,9 +949,9 @@ static Bytes verdicts_text(const std::vector<std::vector<Outcome>> &outcomes) {
 }
 
 // RFC 1624, equation 3, over the words of a pair.
-static uint16_t adjusted(uint16_t check, const std::vector<uint16_t> &old, const std::vector<uint16_t> &now) {
+static uint16_t adjusted(uint16_t check, const uint16_t *old, const uint16_t *now, size_t words) {
     uint32_t sum = static_cast<uint16_t>(~check);
-    for (size_t k = 0; k < old.size(); k++) sum += static_cast<uint32_t>(static_cast<uint16_t>(~old[k])) + now[k];
+    for (size_t k = 0; k < words; k++) sum += static_cast<uint32_t>(static_cast<uint16_t>(~old[k])) + now[k];
     while (sum >> 16) sum = (sum & 0xffff) + (sum >> 16);
     return static_cast<uint16_t>(~sum);
 }
@@ -948,13 +968,13 @@ static void rewrite(Bytes &out, size_t frame, const Record &record, const Outcom
     size_t l4 = frame + record.l4;
     size_t addr = ip + (is_source ? 12 : 16);
     size_t port = l4 + (is_source ? 0 : 2);
-    std::vector<uint16_t> old{two(bytes + addr), two(bytes + addr + 2), two(bytes + port)};
-    std::vector<uint16_t> now{static_cast<uint16_t>(outcome.pair.addr >> 16), static_cast<uint16_t>(outcome.pair.addr), outcome.pair.port};
+    const uint16_t old[3] = {two(bytes + addr), two(bytes + addr + 2), two(bytes + port)};
+    const uint16_t now[3] = {static_cast<uint16_t>(outcome.pair.addr >> 16), static_cast<uint16_t>(outcome.pair.addr), outcome.pair.port};
     bool is_tcp = record.packet.proto == TCP;
     size_t check = l4 + (is_tcp ? 16 : 6);
-    uint16_t header = adjusted(two(bytes + ip + 10), {old[0], old[1]}, {now[0], now[1]});
+    uint16_t header = adjusted(two(bytes + ip + 10), old, now, 2);
     uint16_t before = two(bytes + check);
-    uint16_t after = adjusted(before, old, now);
+    uint16_t after = adjusted(before, old, now, 3);
     if (!is_tcp) after = before == 0 ? 0 : after == 0 ? 0xffff : after;
     put_two(out, ip + 10, header);
     put_two(out, check, after);

@@ -1,26 +1,38 @@
 #!/usr/bin/env bash
-# Times the proved store's parts (crates/slnf_store_bench, as `rt ci` builds it) beside bench/store_plain.cpp, which does the
-# same work on std's hash map. Both have to print one checksum. The words: how many runs each, 5 where none is given. It prints
-# the best of the runs in seconds, as the clock has it and as processor time, which other work on the machine disturbs less.
+# Times the proved store beside plain C++ programs that do the same work on std's hash map, and have to print the same line: its
+# parts alone (crates/slnf_store_bench and bench/store_plain.cpp), and the shared store under threads
+# (crates/slnf_store_threads and bench/threads_plain.cpp, which has a mutex a shard). The words: how many runs each, 5 where none
+# is given. It prints the best of the runs in seconds, as the clock has it, and of the first table as processor time too.
 set -eu
 runs=${1:-5}
 top=$(cd "$(dirname "$0")/.." && pwd)
-proved=$top/crates/slnf_store_bench/out/slnf_store_bench
 folder=$(mktemp -d)
 trap 'rm -rf "$folder"' EXIT
-plain=$folder/store_plain
-if [ ! -x "$proved" ]; then
-    echo "store.sh: crates/slnf_store_bench isn't built: 'rt ci' builds it, and so does 'rt run' in its folder" >&2
-    exit 1
-fi
-"${CXX:-c++}" -std=c++17 -O3 -march=x86-64-v2 -o "$plain" "$top/bench/store_plain.cpp"
 
-# The runs in turn, so that both programs meet the same load: a line for each, with its program's name and its three times.
+# The program of this name that `rt ci` built.
+built() {
+    if [ ! -x "$top/crates/$1/out/$1" ]; then
+        echo "store.sh: crates/$1 isn't built: 'rt ci' builds it, and so does 'rt run' in its folder" >&2
+        exit 1
+    fi
+    echo "$top/crates/$1/out/$1"
+}
+
+parts=$(built slnf_store_bench)
+threads=$(built slnf_store_threads)
+for program in store_plain threads_plain; do
+    "${CXX:-c++}" -std=c++17 -O3 -march=x86-64-v2 -pthread -o "$folder/$program" "$top/bench/$program.cpp"
+done
+
+# The runs of both programs on these words in turn, so that both meet the same load: a line for each, with its program's name
+# and its three times.
 timed() {
+    local proved=$1 plain=$2
+    shift 2
     TIMEFORMAT='%R %U %S'
     for ((run = 0; run < runs; run++)); do
-        echo "proved $({ time "$proved" "$1" >/dev/null; } 2>&1)"
-        echo "plain $({ time "$plain" "$1" >/dev/null; } 2>&1)"
+        echo "proved $({ time "$proved" "$@" >/dev/null; } 2>&1)"
+        echo "plain $({ time "$plain" "$@" >/dev/null; } 2>&1)"
     done
 }
 
@@ -32,16 +44,38 @@ best() {
         END { print clock["proved"], clock["plain"], processor["proved"], processor["plain"] }'
 }
 
-printf '%10s  %17s  %17s\n' '' 'clock' 'processor'
-printf '%10s  %8s %8s  %8s %8s  %s\n' accesses proved plain proved plain checksum
-for accesses in 10000 100000 1000000; do
-    said=$("$proved" "$accesses")
-    expected=$("$plain" "$accesses")
+# What both programs print on these words.
+same() {
+    local said expected
+    said=$("$1" "${@:3}")
+    expected=$("$2" "${@:3}")
     if [ "$said" != "$expected" ]; then
         echo "store.sh: '$said' and '$expected' differ" >&2
         exit 1
     fi
-    read -r clock_proved clock_plain processor_proved processor_plain < <(timed "$accesses" | best)
-    printf '%10d  %8.3f %8.3f  %8.3f %8.3f  %s\n' "$accesses" \
-        "$clock_proved" "$clock_plain" "$processor_proved" "$processor_plain" "${said##* }"
+    echo "$said"
+}
+
+printf '%10s  %17s  %17s\n' '' 'clock' 'processor'
+printf '%10s  %8s %8s  %8s %8s  %s\n' accesses proved plain proved plain checksum
+for accesses in 10000 100000 1000000; do
+    said=$(same "$parts" "$folder/store_plain" "$accesses")
+    read -r clock plain_clock processor plain_processor < <(timed "$parts" "$folder/store_plain" "$accesses" | best)
+    printf '%10d  %8.3f %8.3f  %8.3f %8.3f  %s\n' "$accesses" "$clock" "$plain_clock" "$processor" "$plain_processor" "${said##* }"
+done
+
+# As many rounds in all, whatever the threads. The last columns say how often the time of one thread goes into that of these.
+rounds=2000000
+printf '\n%6s %7s %9s  %17s  %17s\n' '' '' '' 'clock' 'one thread over it'
+printf '%6s %7s %9s  %8s %8s  %8s %8s\n' shards threads accesses proved mutexes proved mutexes
+for shards in 1 64; do
+    for count in 1 2 4; do
+        words=("$count" "$shards" $((rounds / count)))
+        said=$(same "$threads" "$folder/threads_plain" "${words[@]}")
+        read -r accesses < <(awk '{ print $2 }' <<<"$said")
+        read -r clock plain_clock _ _ < <(timed "$threads" "$folder/threads_plain" "${words[@]}" | best)
+        if [ "$count" = 1 ]; then one=$clock plain_one=$plain_clock; fi
+        awk -v shards="$shards" -v threads="$count" -v accesses="$accesses" -v clock="$clock" -v plain="$plain_clock" -v one="$one" -v plain_one="$plain_one" \
+            'BEGIN { printf "%6d %7d %9d  %8.3f %8.3f  %8.2f %8.2f\n", shards, threads, accesses, clock, plain, one / clock, plain_one / plain }'
+    done
 done

@@ -1,0 +1,74 @@
+ghost use Rattle.std.specs.Prelude.{◌<◌, ◌≤◌};
+
+use rand_core::{Rng, SeedableRng};
+use rand_xoshiro::SplitMix64;
+use slnf_access::{Key, Reply, Request, Value};
+
+/// How many keys there are, those of all callers together.
+const KEYS: u32 = 16_384;
+
+/// The keys' numbers count up from here: those of UDP clients.
+const FIRST_KEY: u128 = 0x0411 << 112;
+
+/// The rounds of one caller, which has keys of its own, so that it is told the same whatever the others do.
+#[derive(Drop)]
+pub struct Draws {
+    words: SplitMix64,
+    caller: u64,
+    keys: u64,
+    ghost some: { 0 < keys },
+}
+
+/// A key, and the word that says what becomes of it.
+#[derive(Clone, Copy, Debug)]
+pub struct Draw {
+    pub key: Key,
+    pub word: u64,
+}
+
+impl Draws {
+    /// The rounds of a caller among so many.
+    pub fn of(caller: u64, callers: u32) -> Draws
+        requires { (0 < callers) × (callers ≤ 64) }
+    {
+        Draws {
+            words: SplitMix64::seed_from_u64(caller),
+            caller,
+            keys: u64::from(KEYS / callers),
+        }
+    }
+
+    /// The next round.
+    pub fn next(&mut self) -> Draw {
+        let word = self.words.next_u64();
+        let place = (word >> 32) % self.keys;
+        let key = FIRST_KEY + (u128::from(self.caller) << 16) + u128::from(place);
+        Draw {
+            key: Key(key),
+            word,
+        }
+    }
+}
+
+impl Draw {
+    /// The look at the key.
+    pub fn look(self) -> Request {
+        Request::Read { key: self.key }
+    }
+
+    /// What is written after the look: an absent key is put, and of eight that are found one is deleted and one replaced.
+    pub fn write(self, reply: Reply) -> Option<Request> {
+        let Draw { key, word } = self;
+        let value = Value(u128::from(word));
+        match (reply, word % 8) {
+            (Reply::Absent, _) => Some(Request::PutIfAbsent { key, value }),
+            (Reply::Found(_, version), 0) => Some(Request::DeleteIf { key, version }),
+            (Reply::Found(_, version), 1) => Some(Request::ReplaceIf {
+                key,
+                version,
+                value,
+            }),
+            _ => None,
+        }
+    }
+}

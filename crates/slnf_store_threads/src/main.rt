@@ -1,0 +1,54 @@
+//! A measure of the shared store: rounds of accesses by several threads, and a checksum of what they were told.
+#![tactic(auto)]
+
+mod callers;
+mod draws;
+mod loads;
+mod rounds;
+mod runs;
+mod sums;
+
+use crate::loads::{Load, MOST_CALLERS, MOST_SHARDS};
+use crate::runs::{count, run};
+use anyhow::{Context, Result, bail};
+use std::env;
+use std::hash::RandomState;
+
+/// What is run where no words say otherwise.
+const SMALL: Load = Load {
+    callers: 4,
+    shards: 8,
+    rounds: 1000,
+};
+
+fn main(rt: HostRuntime) -> Result<()> {
+    let words: Vec<String> = env::args(&rt)?.skip(1).collect(rt.alloc())?;
+    let load = match words.as_slice() {
+        [] => SMALL,
+        [callers, shards, rounds] => load_of(number(callers)?, number(shards)?, number(rounds)?)?,
+        _ => bail!("no words, or three: the threads, the shards and each thread's rounds"),
+    };
+    let ran = run(&rt, rt.alloc(), RandomState::new(&rt)?, load)?;
+    let sum = ran.sum;
+    let accesses = count(ran.histories.as_slice());
+    println!(rt; "accesses {accesses} checksum {sum:016x}")?;
+    Ok(())
+}
+
+fn number(word: &String) -> Result<u32> {
+    word.as_str().parse::<u32>().context("a number")
+}
+
+fn load_of(callers: u32, shards: u32, rounds: u32) -> Result<Load> {
+    if callers == 0 || callers > MOST_CALLERS {
+        bail!("1 to 64 threads");
+    }
+    if shards == 0 || shards > MOST_SHARDS {
+        bail!("1 to 64 shards");
+    }
+    Ok(Load {
+        callers,
+        shards,
+        rounds,
+    })
+}
