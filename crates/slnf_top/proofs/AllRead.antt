@@ -1,5 +1,5 @@
 -- The plan and then the captures are read.
-use Rattle.std.proofs.Common.{◌≡◌, inl, inr, ℕ, Option, List, [], ◌∷◌, refl, ap, subst}
+use Rattle.std.proofs.Common.{◌≡◌, inl, inr, ℕ, Option, List, [], ◌∷◌, map, refl, ap, subst}
 use Rattle.std.specs.Prelude.{Ok, Err, IfSome}
 use Rattle.slnf_shelf.specs.declared.shelf.Call.{Call}
 use Rattle.slnf_shelf.specs.declared.shelf.Call.TheVariants.{Read, Begin, Append}
@@ -116,7 +116,7 @@ refused_behind plan names a b c held middle read ended moved same is h =
 
 -- what was told later was told before
 told_earlier : (held middle : Holds) (names : List (List ℕ)) (given : List Given) → SameFiles held middle →
-    AreTold middle names given → AreTold held names given
+    AreTold (map middle names) given → AreTold (map held names) given
 told_earlier held middle [] [] same h = h
 told_earlier held middle [] (g ∷ given) same h = h
 told_earlier held middle (name ∷ names) [] same h = h

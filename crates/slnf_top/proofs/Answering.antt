@@ -1,7 +1,6 @@
 -- What a command answers to bytes that are told, by how far its reading came.
-use Rattle.std.proofs.Common.{◌≡◌, ◌≢◌, ◌⊎◌, ◌<◌, inl, inr, ℕ, Option, Some, None, List, [], ◌∷◌, ◌++◌, map, refl, ap, sym, ◌∙◌, subst, arith}
+use Rattle.std.proofs.Common.{◌≡◌, ◌≢◌, ◌⊎◌, ◌<◌, inl, inr, ℕ, Some, None, List, [], ◌∷◌, ◌++◌, map, refl, ap, sym, ◌∙◌, subst, arith}
 use Rattle.std.specs.Prelude.{Result, Ok, Err, IfSome}
-use Rattle.slnf_pcap.specs.declared.errors.PcapError.{PcapError}
 use Rattle.slnf_pcap.specs.declared.errors.PcapError.TheVariants.{NoMemory as PcapNoMemory}
 use Rattle.slnf_plan.specs.declared.error.PlanError.{PlanError}
 use Rattle.slnf_plan.specs.declared.error.PlanError.TheVariants.{NoMemory as PlanNoMemory}
@@ -11,12 +10,13 @@ use Rattle.slnf_shelf.specs.Shelf.{Faults, Rose}
 use Rattle.slnf_top.specs.declared.statuses.Status.{Status}
 use Rattle.slnf_top.specs.declared.statuses.Status.TheVariants as status
 use Rattle.slnf_top.specs.declared.inputs.Tally.{Tally}
-use Rattle.slnf_top.specs.Words.{PlanWords, Command, Step, command_of}
+use Rattle.slnf_top.specs.Words.{PlanWords, Command, Step, Load, command_of}
 use Rattle.slnf_top.specs.Kinds.{Kind, Whole, Formless, Refusing, Unread, Unwritten, Wanting, kind_of}
 use Rattle.slnf_top.specs.Readings.{Input, PlanFile, CaptureFile, captures_in, inputs_of, name_of, reading_of, with_plan, plan_reading, go_on, first_refusal, no_tally}
-use Rattle.slnf_top.specs.Reached.{Holds, HavePassed, MayRefuse, IsRefused, AllPassed, IsPlanOfCommand, IsOfPlan, FollowsPlan}
+use Rattle.slnf_top.specs.Reached.{Holds, HavePassed, MayRefuse, IsRefused, IsPlanOfCommand, IsOfPlan, FollowsPlan}
 use Rattle.slnf_top.specs.Effects.{input_names}
 use Rattle.slnf_top.specs.Inputs.{AreHeld}
+use Rattle.slnf_top.specs.Written.{WroteAll}
 use Rattle.slnf_top.specs.Outcome.{Ended, IsComplete}
 use Rattle.slnf_top.proofs.Passing.{told}
 use Rattle.slnf_top.proofs.ByKind.{formless_is, unread_is, unwritten_is, wanting_is, has_read_at}
@@ -207,6 +207,7 @@ pub follows_plan : (command : Command) (ended : Status) (a b : Faults) (held hol
 follows_plan (Step words) ended a b held holds plan bytes all same is =
     by_reading words ended a b held holds bytes (plan_reading bytes) refl all
     (subst (λ (name : List ℕ). held name ≡ Some bytes) same is)
+follows_plan (Load words) ended a b held holds plan bytes all none is = absurd none
 
 -- no refusal carries want of memory
 pub carries_none : (command : Command) (ended : Status) (a b : Faults) (held holds : Holds) →
@@ -221,12 +222,22 @@ carries_none command ended a b held holds all = (
       capture_carries is.input is.tally lane (subst (λ (s : Status). MayRefuse is.input is.tally s) e is.may),
 )
 
+-- a command that did all, and one to which memory was wanting
+did_all : (command : Command) (ended : Status) (held holds : Holds) → kind_of ended ≡ Whole →
+    WroteAll command ended held holds → IsComplete command ended
+did_all (Step words) ended held holds e wrote = inl e
+did_all (Load words) ended held holds e wrote = inl wrote.0
+
+wanted_memory : (command : Command) (ended : Status) → ended ≡ status.NoMemory → IsComplete command ended
+wanted_memory (Step words) ended e = inr e
+wanted_memory (Load words) ended e = inr e
+
 -- Where no call met a fault and no input is refused the command does all, unless memory is wanting.
 module _ (command : Command) (ended : Status) (a b : Faults) (held holds : Holds) (bytes : List (List ℕ)) where
   completes_by : (kind : Kind) → kind_of ended ≡ kind → Ended command ended a b held holds →
       AreHeld held (input_names command) bytes → first_refusal (inputs_of command) no_tally bytes ≡ None → b ≡ a →
-      IsComplete ended
-  completes_by Whole e all are none still = inl e
+      IsComplete command ended
+  completes_by Whole e all are none still = did_all command ended held holds e (all.written e)
   completes_by Formless e all are none still = absurd (all.not_usage (formless_is ended e))
   completes_by Refusing e all are none still =
       let some : first_refusal (inputs_of command) no_tally bytes ≡ Some ended =
@@ -241,17 +252,17 @@ module _ (command : Command) (ended : Status) (a b : Faults) (held holds : Holds
         | inr appends ↦ absurd
             (below_self a b _ _ still appends)
       ]
-  completes_by Wanting e all are none still = inr (wanting_is ended e)
+  completes_by Wanting e all are none still = wanted_memory command ended (wanting_is ended e)
 
   pub completes : Ended command ended a b held holds → AreHeld held (input_names command) bytes →
-      first_refusal (inputs_of command) no_tally bytes ≡ None → b ≡ a → IsComplete ended
+      first_refusal (inputs_of command) no_tally bytes ≡ None → b ≡ a → IsComplete command ended
   completes all are none still = completes_by (kind_of ended) refl all are none still
 
 -- a command by what its words are
-pub ended_as : (words : List (List ℕ)) (found : PlanWords) (command : Command) (ended : Status) (a b : Faults)
+pub ended_as : (words : List (List ℕ)) (found command : Command) (ended : Status) (a b : Faults)
     (held holds : Holds) →
-    command_of words ≡ Some (Step found) → command_of words ≡ Some command → Ended (Step found) ended a b held holds →
+    Some found ≡ command_of words → command_of words ≡ Some command → Ended found ended a b held holds →
     Ended command ended a b held holds
 ended_as words found command ended a b held holds some is all =
-    let same : Step found ≡ command = cc in
+    let same : found ≡ command = cc in
     subst (λ (x : Command). Ended x ended a b held holds) same all

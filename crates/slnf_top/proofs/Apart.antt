@@ -8,7 +8,7 @@ use Rattle.slnf_access.specs.declared.requests.Entry.{Entry}
 use Rattle.slnf_top.specs.declared.inputs.Given.{Given}
 use Rattle.slnf_top.specs.declared.outputs.File.{File}
 use Rattle.slnf_top.specs.Words.{PlanWords, Step}
-use Rattle.slnf_top.specs.Names.{capture_name, capture_names, verdicts_name, journal_name, summary_name, outputs_of}
+use Rattle.slnf_top.specs.Names.{capture_name, capture_names, verdicts_name, journal_name, summary_name}
 use Rattle.slnf_top.specs.Effects.{IsAmong, IsOutput}
 use Rattle.slnf_journal.specs.Journal.{journal_text}
 use Rattle.slnf_journal.specs.Verdicts.{verdicts_text}

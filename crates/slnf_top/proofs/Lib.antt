@@ -7,3 +7,7 @@ pub mod AllRead
 pub mod ByKind
 pub mod Answering
 pub mod Ending
+pub mod Numbers
+pub mod Stepping
+pub mod NoneLeft
+pub mod Loading

@@ -1,6 +1,6 @@
 -- Answers to bytes, and refusals.
-use Rattle.std.proofs.Common.{◌≡◌, ◌≢◌, ◌≤◌, ◌<◌, ◌+◌, inl, inr, ℕ, Bool, cond, Option, Some, None, List, [], ◌∷◌, ◌++◌, length, refl, ap, sym, ◌∙◌, subst, append_assoc}
-use Rattle.std.specs.Prelude.{Result, Ok, Err, IfSome}
+use Rattle.std.proofs.Common.{◌≡◌, ◌≢◌, ◌≤◌, ◌+◌, inl, inr, ℕ, Bool, cond, Option, Some, None, List, [], ◌∷◌, ◌++◌, length, refl, ap, ◌∙◌, subst, append_assoc}
+use Rattle.std.specs.Prelude.{Ok, Err, IfSome}
 use Rattle.std.specs.List.{list_all}
 use Rattle.std.proofs.lemmas.Bool.{le-leb}
 use Rattle.slnf_pcap.specs.declared.errors.PcapError.{PcapError}
@@ -10,7 +10,6 @@ use Rattle.slnf_pcap.specs.Captures.{capture_of}
 use Rattle.slnf_plan.specs.declared.plan.Plan.{Plan}
 use Rattle.slnf_plan.specs.declared.error.PlanError.{PlanError}
 use Rattle.slnf_plan.specs.declared.error.PlanError.TheVariants as errors
-use Rattle.slnf_plan.specs.Plain.{plain}
 use Rattle.slnf_plan.specs.Reading.{plan_of_bytes, Refuses as PlanRefuses}
 use Rattle.slnf_top.specs.declared.statuses.Status.{Status}
 use Rattle.slnf_top.specs.declared.statuses.Status.TheVariants as status
@@ -19,8 +18,8 @@ use Rattle.slnf_top.specs.declared.outputs.File.{File}
 use Rattle.slnf_top.specs.Words.{is_proper, are_captures}
 use Rattle.slnf_top.specs.Kinds.{Kind, Whole, Formless, Refusing, Unread, Unwritten, Wanting, kind_of}
 use Rattle.slnf_top.specs.Limits.{plan_limit, capture_limit, captures_limit}
-use Rattle.slnf_top.specs.Readings.{PlanFile, CaptureFile, reading_of, with_plan, spelled_plan, plan_reading, spelled_capture, bytes_reading, capture_reading, packets_reading}
-use Rattle.slnf_top.specs.Refused.{RefusesBy, Refuses, RefusesOne, IsOver, IsBadPlan, IsBadCapture, AreTooMany}
+use Rattle.slnf_top.specs.Readings.{PlanFile, CaptureFile, reading_of, with_plan, spelled_plan, plan_reading, spelled_capture, bytes_reading, capture_reading}
+use Rattle.slnf_top.specs.Refused.{RefusesBy, Refuses, RefusesOne, IsBadPlan, IsBadCapture, AreTooMany}
 use Rattle.slnf_top.specs.Inputs.{IsPlanOf}
 
 -- a fact about what is held, where it is told

@@ -45,7 +45,7 @@ pub record ReadsSoFar (before now : Faults) (held holds : Holds) (names rest : L
   pub passed : HavePassed held (captures_in done) no_tally tally
   pub among : (name : List ℕ) → IsAmong rest name → IsAmong names name
   pub read : (gs : List Given) (ls : List Lane) → AreRead gs ls → AreRead (given ++ gs) (lanes ++ ls)
-  pub told : (gs : List Given) → AreTold held rest gs → AreTold held names (given ++ gs)
+  pub told : (gs : List Given) → AreTold (map held rest) gs → AreTold (map held names) (given ++ gs)
   pub counted : IsTally tally lanes
   pub place : length lanes + length rest ≡ length names
 
@@ -65,6 +65,15 @@ reads_start before held names = record {
   place = omega arith;
 }
 
+-- the same where nothing was pushed yet
+pub reads_begin : (before : Faults) (held : Holds) (names : List (List ℕ)) (given : List Given) (lanes : List Lane) →
+    given ≡ [] → lanes ≡ [] → ReadsSoFar before before held held names names given lanes no_tally
+reads_begin before held names given lanes no_capture no_lane =
+    let front : ReadsSoFar before before held held names names given [] no_tally =
+    subst (λ (gs : List Given). ReadsSoFar before before held held names names gs [] no_tally) (sym no_capture)
+    (reads_start before held names) in
+    subst (λ (ls : List Lane). ReadsSoFar before before held held names names given ls no_tally) (sym no_lane) front
+
 -- the read of one is among those of all
 one_of : (names rest : List (List ℕ)) (name : List ℕ) →
     ((other : List ℕ) → IsAmong (name ∷ rest) other → IsAmong names other) →
@@ -81,9 +90,9 @@ read_more given gs lanes ls g l h =
     subst (λ (xs : List Given). AreRead xs (lanes ++ (l ∷ ls))) (sym (append_assoc given (g ∷ []) gs)) h in
     subst (λ (xs : List Lane). AreRead ((given ++ g ∷ []) ++ gs) xs) (sym (append_assoc lanes (l ∷ []) ls)) front
 
-told_more : (held : Holds) (names : List (List ℕ)) (given gs : List Given) (g : Given) →
-    AreTold held names (given ++ (g ∷ gs)) → AreTold held names ((given ++ g ∷ []) ++ gs)
-told_more held names given gs g h = subst (AreTold held names) (sym (append_assoc given (g ∷ []) gs)) h
+told_more : (told : List (Option (List ℕ))) (given gs : List Given) (g : Given) →
+    AreTold told (given ++ (g ∷ gs)) → AreTold told ((given ++ g ∷ []) ++ gs)
+told_more told given gs g h = subst (AreTold told) (sym (append_assoc given (g ∷ []) gs)) h
 
 count_more : (lanes : List Lane) (lane : Lane) →
     packet_count (lanes ++ lane ∷ []) ≡ packet_count lanes + length lane.packets
@@ -177,7 +186,7 @@ module _ (before now after : Faults) (held holds : Holds) (names rest : List (Li
         read =
             λ gs ls r. read_more given gs lanes ls next.given next.lane
             (far.read (next.given ∷ gs) (next.lane ∷ ls) (read.read, r));
-        told = λ gs t. told_more held names given gs next.given (far.told (next.given ∷ gs) (there, t));
+        told = λ gs t. told_more (map held names) given gs next.given (far.told (next.given ∷ gs) (there, t));
         counted = tally_next tally lanes next far.counted read;
         place = omega arith;
       }
@@ -193,7 +202,7 @@ reads_end before now held holds names given lanes tally far =
     subst (λ (xs : List Given). AreRead xs (lanes ++ [])) (append-nil given) read in
     record {
       read = subst (λ (xs : List Lane). AreRead given xs) (append-nil lanes) front;
-      told = subst (AreTold held names) (append-nil given) (far.told [] tt);
+      told = subst (AreTold (map held names)) (append-nil given) (far.told [] tt);
       tally = far.counted;
       passed =
           subst (λ (ns : List (List ℕ)). HavePassed held (captures_in ns) no_tally tally)

@@ -23,12 +23,12 @@ use Rattle.slnf_setting.specs.Bound.{IsBoundedFor}
 use Rattle.slnf_setting.specs.OneBoxOfPlan.{IsOneBoxOfPlan}
 use Rattle.slnf_setting.specs.Pairs.{KeepsPairs}
 use Rattle.slnf_setting.specs.Replies.{NoneIll}
-use Rattle.slnf_setting.specs.Runs.{RunsWell, IsRunOfPlan}
+use Rattle.slnf_setting.specs.Runs.{RunsWell}
 use Rattle.slnf_top.specs.declared.inputs.Given.{Given}
 use Rattle.slnf_top.specs.declared.outputs.File.{File}
-use Rattle.slnf_top.specs.Files.{files_of}
+use Rattle.slnf_top.specs.Files.{Texts}
 use Rattle.slnf_top.specs.Inputs.{AreRead, AreGiven, AreSized}
-use Rattle.slnf_top.specs.Written.{IsExplained, IsOutcome, IsRunOf, verdicts_in}
+use Rattle.slnf_top.specs.Written.{IsOutcome, IsRunOf}
 
 -- how many there are of a mapped list, and of a range
 pub length_map : {X Y : Type 0} (f : X → Y) (xs : List X) → length (map f xs) ≡ length xs
@@ -126,13 +126,13 @@ outcome_if_ok plan lanes (Ok o) scheduled stamps run one_box pairs none_ill boun
 outcome_if_ok plan lanes (Err e) scheduled stamps run one_box pairs none_ill bounded few well verdicts left = tt
 
 -- the files of an outcome are those of its run
-pub is_run_of : (plan : Plan) (out : List ℕ) (given : List Given) (lanes : List Lane) (outcome : Outcome)
+pub is_run_of : (texts : Texts) (plan : Plan) (given : List Given) (lanes : List Lane) (outcome : Outcome)
     (files : List File) →
-    IsOutcome plan lanes outcome → files ≡ files_of out given outcome.verdicts outcome.journal →
-    IsRunOf plan out given lanes (record { files = files; left = outcome.left })
-is_run_of plan out given lanes outcome files is are = record {
+    IsOutcome plan lanes outcome → files ≡ texts given outcome.verdicts outcome.journal →
+    IsRunOf texts plan given lanes (record { files = files; left = outcome.left })
+is_run_of texts plan given lanes outcome files is are = record {
   journal = outcome.journal;
   explained = is.explained;
-  files = are ∙ ap (λ (vs : List (List Verdict)). files_of out given vs outcome.journal) is.verdicts;
+  files = are ∙ ap (λ (vs : List (List Verdict)). texts given vs outcome.journal) is.verdicts;
   left = is.left ∙ ap left_in is.verdicts;
 }

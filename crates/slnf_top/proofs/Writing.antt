@@ -5,7 +5,6 @@ use Rattle.slnf_shelf.specs.declared.shelf.Call.TheVariants.{Read, Begin, Append
 use Rattle.slnf_shelf.specs.Shelf.{Faults, Moves, Rose, SameFiles, SameOthers, Writes, WritesFront, WritesSome, set_to}
 use Rattle.slnf_shelf.proofs.Laws.{Moves-still, Moves-then, Moves-wider, Rose-after}
 use Rattle.slnf_top.specs.declared.statuses.Status.{Status}
-use Rattle.slnf_top.specs.declared.statuses.Status.TheVariants as status
 use Rattle.slnf_top.specs.declared.outputs.File.{File}
 use Rattle.slnf_top.specs.Kinds.{Kind, Whole, Formless, Refusing, Unread, Unwritten, Wanting, kind_of}
 use Rattle.slnf_top.specs.Reached.{Holds}

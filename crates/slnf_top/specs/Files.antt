@@ -23,13 +23,25 @@ capture_files out lane (given ∷ more) (verdicts ∷ others) =
     record { name = capture_name out lane; text = output_of given.bytes given.capture verdicts }
     ∷ capture_files out (lane + 1) more others
 
+-- the summary's file
+abbrev pub summary_file : List (List Verdict) → List Entry → File
+summary_file verdicts journal = record { name = summary_name; text = summary_text verdicts journal }
+
 -- the files of a run, in the order in which they are written
 abbrev pub files_of : List ℕ → List Given → List (List Verdict) → List Entry → List File
 files_of out given verdicts journal =
     capture_files out 0 given verdicts
     ++ record { name = verdicts_name out; text = verdicts_text verdicts }
     ∷ record { name = journal_name out; text = journal_text journal }
-    ∷ record { name = summary_name; text = summary_text verdicts journal } ∷ []
+    ∷ summary_file verdicts journal ∷ []
+
+-- what a run writes, by its captures, its verdicts and its journal
+abbrev pub Texts : Type 0
+Texts = List Given → List (List Verdict) → List Entry → List File
+
+-- the summary alone
+abbrev pub summary_alone : Texts
+summary_alone given verdicts journal = summary_file verdicts journal ∷ []
 
 -- each of these files holds its text, where the shelf tells what it held
 abbrev pub HoldFiles : List File → Holds → Holds → Type 0

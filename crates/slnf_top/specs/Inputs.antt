@@ -1,6 +1,7 @@
--- A plan and captures that were read, with the captures' bytes and their lanes.
-use Rattle.std.specs.Prelude.{◌≡◌, ℕ, ◌≤◌, Some, List, [], ◌∷◌, length, Ok, All, IfSome}
+-- A plan and captures, with the captures' bytes and their lanes, and how they are read.
+use Rattle.std.specs.Prelude.{◌≡◌, ℕ, ◌≤◌, Option, Some, List, [], ◌∷◌, length, map, Ok, All, IfSome}
 use Rattle.slnf_base.specs.declared.packets.Verdict.{Verdict}
+use Rattle.slnf_pcap.specs.declared.capture.Capture.{Capture}
 use Rattle.slnf_pcap.specs.Captures.{capture_of, LiesIn}
 use Rattle.slnf_plan.specs.declared.plan.Plan.{Plan}
 use Rattle.slnf_plan.specs.Plain.{plain}
@@ -14,7 +15,6 @@ use Rattle.slnf_top.specs.declared.inputs.Captures.{Captures}
 use Rattle.slnf_top.specs.declared.inputs.Inputs.{Inputs}
 use Rattle.slnf_top.specs.declared.inputs.Tally.{Tally}
 use Rattle.slnf_top.specs.Limits.{plan_limit, captures_limit, packets_limit}
-use Rattle.slnf_top.specs.Words.{PlanWords}
 use Rattle.slnf_top.specs.Readings.{PlanFile, captures_in, with_capture, capture_reading, no_tally}
 use Rattle.slnf_top.specs.Reached.{Holds, HavePassed}
 
@@ -36,13 +36,25 @@ AreRead [] (lane ∷ lanes) = ⊥
 AreRead (given ∷ more) [] = ⊥
 AreRead (given ∷ more) (lane ∷ lanes) = IsRead given lane × AreRead more lanes
 
--- the captures have the bytes that stand under these names, where the shelf tells them
-abbrev pub AreTold : Holds → List (List ℕ) → List Given → Type 0
-AreTold held [] [] = Unit {0}
-AreTold held [] (given ∷ more) = ⊥
-AreTold held (name ∷ names) [] = ⊥
-AreTold held (name ∷ names) (given ∷ more) =
-    IfSome (held name) (λ bytes. given.bytes ≡ bytes) × AreTold held names more
+-- A lane is that of a capture of these bytes.
+pub record IsLaneOf (bytes : List ℕ) (lane : Lane) : Type 0 where
+  pub capture : Capture
+  pub read : IsRead (record { bytes = bytes; capture = capture }) lane
+
+-- lanes are those of captures of these bytes, in order
+abbrev pub AreLanesOf : List (List ℕ) → List Lane → Type 0
+AreLanesOf [] [] = Unit {0}
+AreLanesOf [] (lane ∷ lanes) = ⊥
+AreLanesOf (bytes ∷ more) [] = ⊥
+AreLanesOf (bytes ∷ more) (lane ∷ lanes) = IsLaneOf bytes lane × AreLanesOf more lanes
+
+-- the captures have these bytes, each where they are told
+abbrev pub AreTold : List (Option (List ℕ)) → List Given → Type 0
+AreTold [] [] = Unit {0}
+AreTold [] (given ∷ more) = ⊥
+AreTold (told ∷ others) [] = ⊥
+AreTold (told ∷ others) (given ∷ more) =
+    IfSome told (λ bytes. given.bytes ≡ bytes) × AreTold others more
 
 -- the shelf tells these bytes under these names
 abbrev pub AreHeld : Holds → List (List ℕ) → List (List ℕ) → Type 0
@@ -86,22 +98,25 @@ pub record IsNext (tally : Tally) (next : NextLane) : Type 0 where
 -- All captures were read: they are what the shelf tells, and none is refused.
 pub record AreCaptures (held : Holds) (names : List (List ℕ)) (captures : Captures) : Type 0 where
   pub read : AreRead captures.given captures.lanes
-  pub told : AreTold held names captures.given
+  pub told : AreTold (map held names) captures.given
   pub tally : IsTally captures.tally captures.lanes
   pub passed : HavePassed held (captures_in names) no_tally captures.tally
 
--- What a run works on: the plan and the captures that the inputs hold, where the shelf tells them, and the lanes of
--- these captures.
-pub record WorksOn (words : PlanWords) (held : Holds) (plan : Plan) (given : List Given) (lanes : List Lane)
-    : Type 0 where
-  pub is_plan : IfSome (held words.plan) (IsPlanOf plan)
-  pub are_told : AreTold held words.captures given
+-- What a run comes from: the bytes of a plan and of captures, each where they are told.
+pub record Source : Type 0 where
+  pub plan : Option (List ℕ)
+  pub captures : List (Option (List ℕ))
+
+-- What a run works on: the plan and the captures of these bytes, and the lanes of these captures.
+pub record WorksOn (source : Source) (plan : Plan) (given : List Given) (lanes : List Lane) : Type 0 where
+  pub is_plan : IfSome source.plan (IsPlanOf plan)
+  pub are_told : AreTold source.captures given
   pub are_read : AreRead given lanes
 
 -- The plan of this name and the captures of these were read.
 pub record AreInputs (plan : List ℕ) (names : List (List ℕ)) (held : Holds) (inputs : Inputs) : Type 0 where
   pub is_plan : IfSome (held plan) (IsPlanOf inputs.plan)
-  pub are_told : AreTold held names inputs.captures.given
+  pub are_told : AreTold (map held names) inputs.captures.given
   pub are_read : AreRead inputs.captures.given inputs.captures.lanes
   pub tally : IsTally inputs.captures.tally inputs.captures.lanes
   pub passed : HavePassed held (PlanFile plan ∷ captures_in names) no_tally inputs.captures.tally

@@ -1,6 +1,6 @@
 -- The names of the files that a command writes.
 use Rattle.std.specs.Prelude.{ℕ, ◌+◌, List, [], ◌∷◌, ◌++◌, codes, decimal}
-use Rattle.slnf_top.specs.Words.{Command, Step}
+use Rattle.slnf_top.specs.Words.{Command, Step, Load}
 
 -- the output capture of a lane
 abbrev pub capture_name : List ℕ → ℕ → List ℕ
@@ -28,3 +28,4 @@ abbrev pub outputs_of : Command → List (List ℕ)
 outputs_of (Step words) =
     capture_names words.out 0 words.captures
     ++ verdicts_name words.out ∷ journal_name words.out ∷ summary_name ∷ []
+outputs_of (Load words) = summary_name ∷ []

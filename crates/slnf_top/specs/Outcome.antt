@@ -1,14 +1,14 @@
 -- What is so when a command has ended.
-use Rattle.std.specs.Prelude.{◌≡◌, ◌≢◌, ◌⊎◌, ℕ, List}
+use Rattle.std.specs.Prelude.{◌≡◌, ◌≢◌, ◌⊎◌, ℕ, List, Result, Ok, Err}
 use Rattle.slnf_shelf.specs.Shelf.{Faults, Moves, SameFiles}
 use Rattle.slnf_top.specs.declared.statuses.Status.{Status}
 use Rattle.slnf_top.specs.declared.statuses.Status.TheVariants as status
 use Rattle.slnf_top.specs.Kinds.{Whole, Refusing, kind_of, HasRead, MayWrite}
-use Rattle.slnf_top.specs.Words.{Command}
+use Rattle.slnf_top.specs.Words.{Command, Step, Load}
 use Rattle.slnf_top.specs.Readings.{inputs_of}
 use Rattle.slnf_top.specs.Reached.{Holds, IsUnread, IsRefused, AllPassed}
 use Rattle.slnf_top.specs.Effects.{IsOutput, Reads, Calls, WriteRose}
-use Rattle.slnf_top.specs.Written.{WroteAll, WroteFront}
+use Rattle.slnf_top.specs.Written.{status_of, WroteAll, WroteFront}
 
 -- How a command ended.
 pub record Ended (command : Command) (ended : Status) (before now : Faults) (held holds : Holds) : Type 0 where
@@ -24,6 +24,12 @@ pub record Ended (command : Command) (ended : Status) (before now : Faults) (hel
   pub written : kind_of ended ≡ Whole → WroteAll command ended held holds
   pub stopped : ended ≡ status.WriteFault → WroteFront command before now held holds
 
--- a command with no fault and no refusal did all, or memory was wanting
-abbrev pub IsComplete : Status → Type 0
-IsComplete ended = (kind_of ended ≡ Whole) ⊎ (ended ≡ status.NoMemory)
+-- how a command ended that left so many packets, or was refused so
+abbrev pub ended_by : Result ℕ Status → Status
+ended_by (Ok left) = status_of left
+ended_by (Err refusal) = refusal
+
+-- A command with no fault and no refusal did all, or memory was wanting. `load` leaves no packet.
+abbrev pub IsComplete : Command → Status → Type 0
+IsComplete (Step words) ended = (kind_of ended ≡ Whole) ⊎ (ended ≡ status.NoMemory)
+IsComplete (Load words) ended = (ended ≡ status.Ok) ⊎ (ended ≡ status.NoMemory)

@@ -12,7 +12,7 @@ use Rattle.slnf_top.specs.declared.statuses.Status.{Status}
 use Rattle.slnf_top.specs.declared.statuses.Status.TheVariants as status
 use Rattle.slnf_top.specs.declared.inputs.Tally.{Tally}
 use Rattle.slnf_top.specs.Limits.{plan_limit, capture_limit}
-use Rattle.slnf_top.specs.Words.{Command, Step}
+use Rattle.slnf_top.specs.Words.{Command, Step, Load}
 use Rattle.slnf_top.specs.Readings.{Input, PlanFile, CaptureFile, name_of, reading_of, no_tally}
 
 -- what stands under each name, where it is told
@@ -67,6 +67,7 @@ pub record AllPassed (held : Holds) (inputs : List Input) : Type 0 where
 -- the file is one that the command reads as a plan
 abbrev pub IsPlanOfCommand : Command → List ℕ → Type 0
 IsPlanOfCommand (Step words) name = name ≡ words.plan
+IsPlanOfCommand (Load words) name = ⊥
 
 -- a refusal that is a plan's
 abbrev pub IsOfPlan : Status → Type 0

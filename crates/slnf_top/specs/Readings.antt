@@ -10,7 +10,7 @@ use Rattle.slnf_top.specs.declared.statuses.Status.{Status}
 use Rattle.slnf_top.specs.declared.statuses.Status.TheVariants as status
 use Rattle.slnf_top.specs.declared.inputs.Tally.{Tally}
 use Rattle.slnf_top.specs.Limits.{plan_limit, capture_limit, captures_limit, packets_limit}
-use Rattle.slnf_top.specs.Words.{PlanWords, Command, Step}
+use Rattle.slnf_top.specs.Words.{Command, Step, Load}
 
 -- A file that a command reads, by what it is to hold.
 pub data Input : Type 0 where
@@ -29,6 +29,7 @@ captures_in (name ∷ names) = CaptureFile name ∷ captures_in names
 -- the files that a command reads, in order
 abbrev pub inputs_of : Command → List Input
 inputs_of (Step words) = PlanFile words.plan ∷ captures_in words.captures
+inputs_of (Load words) = []
 
 -- what was read as a plan
 abbrev pub spelled_plan : Result PlainPlan PlanError → Result PlainPlan Status

@@ -1,7 +1,12 @@
 -- The words of the commands.
-use Rattle.std.specs.Prelude.{ℕ, Bool, false, not, ◌&&◌, ◌==◌, nat_le, if◌then◌else◌, Option, Some, None, List, [], ◌∷◌, length, codes}
+use Rattle.std.specs.Prelude.{ℕ, ◌^◌, Bool, false, not, ◌&&◌, ◌==◌, nat_le, if◌then◌else◌, Option, Some, None, option_and_then, List, [], ◌∷◌, length, map, codes, string_bytes}
 use Rattle.std.specs.List.{list_all}
 use Rattle.std.specs.Str.{bytes_eq}
+use Rattle.slnf_journal.specs.Fields.{number_of}
+use Rattle.slnf_top.specs.declared.forms.PlanWords.{PlanWords as StepWords}
+use Rattle.slnf_top.specs.declared.forms.LoadWords.{LoadWords as NumberWords}
+use Rattle.slnf_top.specs.declared.forms.CommandWords.{CommandWords}
+use Rattle.slnf_top.specs.declared.forms.CommandWords.TheVariants as read
 
 -- a word that may name a file isn't empty, and doesn't begin with `-`
 abbrev pub is_proper : List ℕ → Bool
@@ -18,21 +23,64 @@ pub record PlanWords : Type 0 where
   pub out : List ℕ
   pub captures : List (List ℕ)
 
+-- what the words NUMBER LANES PACKETS name
+pub record LoadWords : Type 0 where
+  pub number : ℕ
+  pub lanes : ℕ
+  pub packets : ℕ
+
 -- A command, with what its words name.
 pub data Command : Type 0 where
   Step : PlanWords → Command
+  Load : LoadWords → Command
 
--- the command that has this name, where these words are of the form PLAN OUT IN..
-abbrev pub command_named : List ℕ → List ℕ → List ℕ → List (List ℕ) → Option Command
-command_named name plan out captures =
-    if bytes_eq name (codes "step") && is_proper plan && is_proper out && are_captures captures
+-- `step` of these words, where they are PLAN OUT IN..: the plan, the front of the outputs' names, and 1 to 32
+-- captures, each a word that may name a file
+abbrev pub step_of : List (List ℕ) → Option Command
+step_of [] = None
+step_of (plan ∷ []) = None
+step_of (plan ∷ out ∷ captures) =
+    if is_proper plan && is_proper out && are_captures captures
     then Some (Step (record { plan = plan; out = out; captures = captures }))
     else None
 
--- The command of the words, where they are of its form: `step`, the plan, the front of the outputs' names, and 1 to
--- 32 captures, each a word that may name a file.
+infixl 10 ◌>>=◌
+abbrev ◌>>=◌ : {A B : Type 0} → Option A → (A → Option B) → Option B
+o >>= f = option_and_then f o
+
+-- `load` of these words, where they are NUMBER LANES PACKETS: decimals without leading zeros, of a number below 2^64,
+-- of 1 to 32 lanes, and of 1 to 32,768 packets
+abbrev pub load_of : List (List ℕ) → Option Command
+load_of [] = None
+load_of (number ∷ []) = None
+load_of (number ∷ lanes ∷ []) = None
+load_of (number ∷ lanes ∷ packets ∷ []) = do
+  n ← number_of 0 (2 ^ 64) number
+  l ← number_of 1 33 lanes
+  p ← number_of 1 32769 packets
+  Some (Load (record { number = n; lanes = l; packets = p }))
+load_of (number ∷ lanes ∷ packets ∷ more ∷ words) = None
+
+-- the command that has this name, where the words behind it are of its form
+abbrev pub command_named : List ℕ → List (List ℕ) → Option Command
+command_named name words =
+    if bytes_eq name (codes "step") then step_of words
+    else if bytes_eq name (codes "load") then load_of words
+    else None
+
+-- The command of the words, where they are of a form.
 abbrev pub command_of : List (List ℕ) → Option Command
 command_of [] = None
-command_of (name ∷ []) = None
-command_of (name ∷ plan ∷ []) = None
-command_of (name ∷ plan ∷ out ∷ captures) = command_named name plan out captures
+command_of (name ∷ words) = command_named name words
+
+-- what the words that were read name
+abbrev pub step_named : StepWords → PlanWords
+step_named words =
+    record { plan = words.plan.now; out = words.out.now; captures = map string_bytes words.captures.now }
+
+abbrev pub load_named : NumberWords → LoadWords
+load_named words = record { number = words.number; lanes = words.lanes; packets = words.packets }
+
+abbrev pub spelled : CommandWords → Command
+spelled (read.Step words) = Step (step_named words)
+spelled (read.Load words) = Load (load_named words)

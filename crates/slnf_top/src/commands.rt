@@ -3,20 +3,22 @@ ghost use Rattle.slnf_pcap.specs.declared.errors.PcapError.TheVariants.{NoMemory
 ghost use Rattle.slnf_plan.specs.declared.error.PlanError.TheVariants.{NoMemory as PlanNoMemory};
 ghost use Rattle.slnf_shelf.specs.Shelf.{Moves, SameFiles};
 ghost use Rattle.slnf_top.specs.declared.statuses.Status.TheVariants as status;
-ghost use Rattle.slnf_top.specs.Words.{Command, Step, command_of};
+ghost use Rattle.slnf_top.specs.Words.{Command, Step, Load, step_named, load_named, spelled, command_of};
 ghost use Rattle.slnf_top.specs.Kinds.{Whole, Refusing, kind_of, HasRead, MayWrite};
 ghost use Rattle.slnf_top.specs.Readings.{inputs_of, no_tally, plan_reading, first_refusal};
 ghost use Rattle.slnf_top.specs.Reached.{IsUnread, IsRefused, AllPassed, IsPlanOfCommand, FollowsPlan};
 ghost use Rattle.slnf_top.specs.Effects.{input_names, IsOutput, Reads, Calls, WriteRose, NoCalls};
 ghost use Rattle.slnf_top.specs.Inputs.{AreHeld};
-ghost use Rattle.slnf_top.specs.Written.{WroteAll, WroteFront, status_of};
-ghost use Rattle.slnf_top.specs.Outcome.{Ended, IsComplete};
+ghost use Rattle.slnf_top.specs.Written.{WroteAll, WroteFront};
+ghost use Rattle.slnf_top.specs.Outcome.{Ended, ended_by, IsComplete};
 
+use crate::forms::{CommandWords, LoadWords, PlanWords};
 use crate::inputs::read_inputs;
+use crate::loads::run_load;
 use crate::outputs::write_files;
 use crate::statuses::Status;
 use crate::steps::run_inputs;
-use crate::words::{PlanWords, step_words};
+use crate::words::command_words;
 use slnf_shelf::Shelf;
 use std::alloc::Global;
 use std::hash::RandomState;
@@ -27,6 +29,9 @@ use std::hash::RandomState;
 /// `step PLAN OUT IN..` reads the plan and its 1 to 32 captures whole, the lanes 0, 1 and so on, and runs the plan
 /// over them by its written schedule. It writes `OUT.0.pcap` and so on for each lane in order, then `OUT.verdicts`,
 /// `OUT.journal`, and the summary line to `-`. One IN may stand twice, and an output may have an input's name.
+///
+/// `load NUMBER LANES PACKETS` makes a NAT's plan and a capture for each lane from the number, runs them in the same
+/// way, and writes the summary line to `-` alone. It leaves no packet.
 pub fn top_plain<S: Shelf>(
     alloc: Global,
     state: RandomState,
@@ -81,10 +86,10 @@ pub fn top_plain<S: Shelf>(
         → command_of (map string_bytes words.now) ≡ Some command
         → AreHeld (S.holds shelf.old) (input_names command) bytes
         → first_refusal (inputs_of command) no_tally bytes ≡ None
-        → S.faults shelf.new ≡ S.faults shelf.old → IsComplete result }
+        → S.faults shelf.new ≡ S.faults shelf.old → IsComplete command result }
 
     // After Ok and Left the files hold the texts of a run, which one ordinary box explains: Ok where it leaves no
-    // packet, and Left where it leaves some.
+    // packet, and Left where it leaves some. `load` ends with Ok.
     ensures written { (command : Command) → command_of (map string_bytes words.now) ≡ Some command
         → kind_of result ≡ Whole → WroteAll command result (S.holds shelf.old) (S.holds shelf.new) }
     // After WriteFault the files before the one with the fault hold the texts of such a run, it holds a front of its
@@ -93,43 +98,66 @@ pub fn top_plain<S: Shelf>(
         → result ≡ Status.WriteFault
         → WroteFront command (S.faults shelf.old) (S.faults shelf.new) (S.holds shelf.old) (S.holds shelf.new) }
 {
-    match step_words(words) {
+    match command_words(words) {
         None => Status::Usage,
-        Some(step) => run_step(alloc, state, shelf, step),
+        Some(command) => run_command(alloc, state, shelf, command),
     }
 }
 
-/// Runs `step`: reads its inputs, makes the files, and writes them.
-fn run_step<S: Shelf>(
+/// Runs the command, and says how it ended.
+fn run_command<S: Shelf>(
     alloc: Global,
     state: RandomState,
     shelf: &mut S,
-    step: PlanWords<'_>,
+    command: CommandWords<'_>,
 ) -> Status
-    requires { length step.captures.now ≤ 32 }
-    ensures { Ended (Step (record {
-      plan = step.entry.plan.now;
-      out = step.entry.out.now;
-      captures = map string_bytes step.entry.captures.now;
-    })) result (S.faults shelf.old) (S.faults shelf.new) (S.holds shelf.old) (S.holds shelf.new) }
+    ensures { Ended (spelled command.entry) result
+        (S.faults shelf.old) (S.faults shelf.new) (S.holds shelf.old) (S.holds shelf.new) }
 {
-    let inputs = match read_inputs(alloc, shelf, step.plan, step.captures) {
-        Ok(inputs) => inputs,
-        Err(status) => return status,
-    };
-    let run = match run_inputs(alloc, state, step.out, &inputs) {
-        Ok(run) => run,
-        Err(_) => return Status::NoMemory,
-    };
-    match write_files(shelf, run.files.as_slice()) {
-        Ok(()) => ending(run.left),
-        Err(status) => status,
+    match command {
+        CommandWords::Step(words) => status_of(step(alloc, state, shelf, &words)),
+        CommandWords::Load(words) => status_of(load(alloc, state, shelf, &words)),
     }
 }
 
-/// How a run ends that leaves so many packets.
-fn ending(left: u64) -> Status
-    ensures { result ≡ status_of left }
+/// Reads the inputs, makes the files of the run, and writes them. Says how many packets the run leaves.
+fn step<S: Shelf>(
+    alloc: Global,
+    state: RandomState,
+    shelf: &mut S,
+    words: &PlanWords<'_>,
+) -> Result<u64, Status>
+    ensures { Ended (Step (step_named words.now)) (ended_by result)
+        (S.faults shelf.old) (S.faults shelf.new) (S.holds shelf.old) (S.holds shelf.new) }
 {
-    if left == 0 { Status::Ok } else { Status::Left }
+    let inputs = read_inputs(alloc, shelf, words.plan, words.captures)?;
+    let run = run_inputs(alloc, state, words.out, &inputs)?;
+    write_files(shelf, run.files.as_slice())?;
+    Ok(run.left)
+}
+
+/// Makes the load, runs it and writes its summary. Says how many packets the run leaves.
+fn load<S: Shelf>(
+    alloc: Global,
+    state: RandomState,
+    shelf: &mut S,
+    words: &LoadWords,
+) -> Result<u64, Status>
+    ensures { Ended (Load (load_named words.now)) (ended_by result)
+        (S.faults shelf.old) (S.faults shelf.new) (S.holds shelf.old) (S.holds shelf.new) }
+{
+    let run = run_load(alloc, state, words)?;
+    write_files(shelf, run.files.as_slice())?;
+    Ok(run.left)
+}
+
+/// How a command ended that left so many packets, or was refused.
+fn status_of(ended: Result<u64, Status>) -> Status
+    ensures { result ≡ ended_by ended }
+{
+    match ended {
+        Ok(0) => Status::Ok,
+        Ok(_) => Status::Left,
+        Err(status) => status,
+    }
 }

@@ -81,14 +81,9 @@ pub fn read_inputs<S: Shelf>(
     ensures refused { IfErr result (RefusesInputs (S.holds shelf.old)
         (PlanFile plan.now ∷ captures_in (map string_bytes names.now)) (S.faults shelf.old) (S.faults shelf.new)) }
 {
-    let plan = match read_plan_file(alloc, shelf, plan) {
-        Ok(plan) => plan,
-        Err(status) => return Err(status),
-    };
-    match read_captures(alloc, shelf, names) {
-        Ok(captures) => Ok(Inputs { plan, captures }),
-        Err(status) => Err(status),
-    }
+    let plan = read_plan_file(alloc, shelf, plan)?;
+    let captures = read_captures(alloc, shelf, names)?;
+    Ok(Inputs { plan, captures })
 }
 
 /// Reads a file whole, within the limit of this number.

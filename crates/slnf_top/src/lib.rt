@@ -4,11 +4,15 @@
 #[cfg(test)]
 mod cases;
 mod commands;
+mod forms;
 mod inputs;
 #[cfg(test)]
 mod letters;
 #[cfg(test)]
 mod limit_tests;
+#[cfg(test)]
+mod load_tests;
+mod loads;
 mod names;
 mod outputs;
 mod statuses;

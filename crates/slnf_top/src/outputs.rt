@@ -4,7 +4,7 @@ ghost use Rattle.slnf_run.specs.Verdicts.{left_in};
 ghost use Rattle.slnf_flight.specs.Output.{output_of};
 ghost use Rattle.slnf_top.specs.Names.{capture_name};
 ghost use Rattle.slnf_top.specs.Inputs.{IsGiven, AreGiven, AreSized};
-ghost use Rattle.slnf_top.specs.Files.{capture_files, files_of, names_of, IsNamed, WritesFiles, Wrote, WroteOne};
+ghost use Rattle.slnf_top.specs.Files.{capture_files, files_of, summary_file, names_of, IsNamed, WritesFiles, Wrote, WroteOne};
 ghost use Rattle.slnf_top.specs.Effects.{RoseAt};
 ghost use Rattle.slnf_top.specs.Refused.{StopsWriting, StaysUnless, StopsWithin, StopsAt};
 
@@ -56,9 +56,17 @@ pub fn files_of(
     files.push(File::of(names::verdicts_name(alloc, out)?, verdicts))?;
     let journal = write_journal(alloc, outcome.journal.as_slice())?;
     files.push(File::of(names::journal_name(alloc, out)?, journal))?;
-    let summary = write_summary(alloc, outcome)?;
-    files.push(File::of(String::from_str(alloc, "-")?, summary))?;
+    files.push(summary_file(alloc, outcome)?)?;
     Ok(files)
+}
+
+/// The summary's file.
+pub fn summary_file(alloc: Global, outcome: &Outcome) -> Result<File, NoMemory>
+    requires left { outcome.now.left ≡ left_in outcome.now.verdicts }
+    ensures { IfOk result (λ file. file ≡ summary_file outcome.now.verdicts outcome.now.journal) }
+{
+    let summary = write_summary(alloc, outcome)?;
+    Ok(File::of(String::from_str(alloc, "-")?, summary))
 }
 
 /// The output captures of the lanes, in order.

@@ -98,7 +98,12 @@ impl fmt::Display for Status {
         match self {
             Status::Ok => Ok(()),
             Status::Left => Ok(()),
-            Status::Usage => writeln!(f, "slnf: usage: step PLAN OUT IN"),
+            Status::Usage => {
+                writeln!(
+                    f,
+                    "slnf: usage: step PLAN OUT IN, or load NUMBER LANES PACKETS"
+                )
+            }
             Status::PlanBad(error) => {
                 let number = error.number().unwrap_or(0);
                 let path = error.path().unwrap_or("");

@@ -1,6 +1,7 @@
 ghost use Rattle.std.specs.Prelude.{◌≤◌, length, IfOk};
 ghost use Rattle.slnf_flight.specs.Lanes.{packet_count};
 ghost use Rattle.slnf_top.specs.Inputs.{AreRead};
+ghost use Rattle.slnf_top.specs.Files.{files_of};
 ghost use Rattle.slnf_top.specs.Written.{IsOutcome, IsRunOf};
 
 use crate::inputs::Inputs;
@@ -20,7 +21,7 @@ pub struct Run {
 }
 
 /// Runs the plan over the lanes.
-fn outcome_of(
+pub fn outcome_of(
     alloc: Global,
     state: RandomState,
     plan: &Plan,
@@ -43,7 +44,8 @@ pub fn run_inputs(
     requires read { AreRead inputs.now.captures.given inputs.now.captures.lanes }
     requires few_lanes { length inputs.now.captures.lanes ≤ 32 }
     requires few_packets { packet_count inputs.now.captures.lanes ≤ 1048576 }
-    ensures { IfOk result (IsRunOf inputs.now.plan out.now inputs.now.captures.given inputs.now.captures.lanes) }
+    ensures { IfOk result
+        (IsRunOf (files_of out.now) inputs.now.plan inputs.now.captures.given inputs.now.captures.lanes) }
 {
     let outcome = outcome_of(alloc, state, &inputs.plan, inputs.captures.lanes.as_slice())?;
     let files = files_of(alloc, out, inputs.captures.given.as_slice(), &outcome)?;

@@ -1,4 +1,8 @@
 //! The command over files in memory, by the lines of a text.
+ghost use Rattle.std.specs.Prelude.{◌<◌};
+
+mod transitions;
+
 use super::*;
 use crate::cases;
 use crate::letters::{letter, sign};
@@ -68,6 +72,35 @@ fn shelf_of(alloc: Global, fails: &str) -> Result<MemoryShelf, Failed> {
     Ok(MemoryShelf::make(alloc, [fail].to_vec(alloc)?))
 }
 
+/// The rule that permits all TCP from inside to outside.
+const TCP_OUT: &str = r#"{ action = "permit", direction = "out", proto = "tcp" }"#;
+
+/// One epoch with one instance.
+const ONE_INSTANCE: &str = "[[epoch]];instances = [{ lane = 0 }];";
+
+/// Appends the record of a datagram to 198.51.100.7:53 of the host 10.0.0.HOST and the port 1024 + 256 * STEP.
+fn put_flow(capture: &mut Vec<u8>, step: u8, host: u8) -> Result<(), Failed>
+    requires { step < 64 }
+{
+    capture.extend_from_slice(b"\x00\x00\x00\x00\x00\x00\x00\x00\x1c\x00\x00\x00\x1c\x00\x00\x00")?;
+    capture.extend_from_slice(b"\x45\x00\x00\x1c\x00\x00\x00\x00\x40\x11\x00\x00")?;
+    capture.extend_from_slice(&[10, 0, 0, host, 198, 51, 100, 7])?;
+    capture.extend_from_slice(&[4 + step, 0, 0, 53, 0, 8, 0, 0])?;
+    Ok(())
+}
+
+/// The verdicts of these flows. The pool has 64,512 ports from 1024 on, so the first candidate of 10.0.0.h and the port
+/// 1024 + 256 * s is 43008 + 256 * s + h, which is free.
+fn flowed(alloc: Global) -> Result<String, Failed> {
+    let mut text = String::from_str(alloc, "slnf verdicts 1\n")?;
+    for number in 0..16384u32 {
+        let port = 43008 + number;
+        let line = format!(in alloc; "0 {number} emit source 203.0.113.1:{port}\n")?;
+        text.push_str(line.as_str())?;
+    }
+    Ok(text)
+}
+
 impl Scene {
     /// Puts a balancer's plan there.
     fn put_balancer(&mut self, text: &str) -> Result<(), Failed> {
@@ -94,13 +127,36 @@ impl Scene {
         Ok(self.shelf.put("plan.toml", plan.as_bytes())?)
     }
 
-    /// Puts a firewall's plan there, which permits all TCP from inside to outside.
-    fn put_firewall(&mut self, epochs: &str) -> Result<(), Failed> {
+    /// Puts a firewall's plan there.
+    fn put_firewall(&mut self, rules: &str, epochs: &str) -> Result<(), Failed> {
         let epochs = spelled(self.alloc, epochs, 1)?;
         let plan = format!(in self.alloc;
-            "function = \"firewall\"\nshards = 1\n[firewall]\ninside = \"10.0.0.0/8\"\nrules = [{{ action = \"permit\", direction = \"out\", proto = \"tcp\" }}]\n{epochs}"
+            "function = \"firewall\"\nshards = 1\n[firewall]\ninside = \"10.0.0.0/8\"\nrules = [{rules}]\n{epochs}"
         )?;
         Ok(self.shelf.put("plan.toml", plan.as_bytes())?)
+    }
+
+    /// Puts a firewall's plan there, whose rules are so many times one rule, and then others.
+    fn put_rules(&mut self, text: &str) -> Result<(), Failed> {
+        let (count, rest) = parted(text);
+        let (often, once) = rest.split_once('%').unwrap_or((rest, ""));
+        let mut rules = spelled(self.alloc, often, count.parse()?)?;
+        rules.push_str(once)?;
+        self.put_firewall(rules.as_str(), ONE_INSTANCE)
+    }
+
+    /// Puts a capture of one datagram of each flow there.
+    fn put_flows(&mut self) -> Result<(), Failed> {
+        let mut capture = bytes_of(self.alloc, "h", 1)?;
+        for step in 0..64 {
+            for host in 0..=255 {
+                put_flow(&mut capture, step, host)?;
+            }
+        }
+        let name = input_name(self.alloc, self.captures)?;
+        self.shelf.put(name.as_str(), capture.as_slice())?;
+        self.captures = self.captures.saturating_add(1);
+        Ok(())
     }
 
     /// Puts captures there.
@@ -163,7 +219,9 @@ impl Scene {
             }
             "balancer" => self.put_balancer(rest)?,
             "nat" => self.put_nat(rest)?,
-            "firewall" => self.put_firewall(rest)?,
+            "firewall" => self.put_firewall(TCP_OUT, rest)?,
+            "rules" => self.put_rules(rest)?,
+            "flows" => self.put_flows()?,
             "in" => self.put_captures(rest)?,
             "ends" => return self.ends(first, last),
             "words" => {
@@ -177,6 +235,10 @@ impl Scene {
             }
             "says" => {
                 let text = spelled(self.alloc, last, 1)?;
+                return self.holds(first, text.as_bytes());
+            }
+            "flowed" => {
+                let text = flowed(self.alloc)?;
                 return self.holds(first, text.as_bytes());
             }
             "none" => return Ok(self.shelf.read(rest, 0, &mut [0; 1]).is_err()),
@@ -219,7 +281,7 @@ fn first_wrong<'a>(scene: &mut Scene, lines: &'a str) -> Result<Option<&'a str>,
 }
 
 /// Which line of a text told what isn't so.
-fn wrong_in<'a>(rt: &HostRuntime, lines: &'a str) -> Result<Option<&'a str>, Failed> {
+pub(crate) fn wrong_in<'a>(rt: &HostRuntime, lines: &'a str) -> Result<Option<&'a str>, Failed> {
     let mut scene = empty(rt.alloc(), RandomState::new(rt)?);
     first_wrong(&mut scene, lines)
 }
@@ -227,56 +289,91 @@ fn wrong_in<'a>(rt: &HostRuntime, lines: &'a str) -> Result<Option<&'a str>, Fai
 /// Whole runs of a balancer, byte for byte, forward and back.
 #[test]
 fn balancers(rt: HostRuntime) -> Result<(), Failed> {
-    assert_eq!(rt; wrong_in(&rt, cases::BALANCERS)?, None);
+    assert_eq!(rt; wrong_in(&rt, cases::balancer::BALANCERS)?, None);
     Ok(())
 }
 
 /// Epochs, quotas and stops.
 #[test]
 fn endings(rt: HostRuntime) -> Result<(), Failed> {
-    assert_eq!(rt; wrong_in(&rt, cases::ENDINGS)?, None);
+    assert_eq!(rt; wrong_in(&rt, cases::balancer::ENDINGS)?, None);
     Ok(())
 }
 
 /// Batches of 3 and of 8 packets.
 #[test]
 fn batches(rt: HostRuntime) -> Result<(), Failed> {
-    assert_eq!(rt; wrong_in(&rt, cases::BATCHES)?, None);
+    assert_eq!(rt; wrong_in(&rt, cases::many::BATCHES)?, None);
     Ok(())
 }
 
-/// Whole runs of a NAT: out and back, a race, pools that are full, an orphan and its sweep.
+/// Whole runs of a NAT: out and back, a race, pools that are full or wide, TCP and UDP with one pair.
 #[test]
 fn nats(rt: HostRuntime) -> Result<(), Failed> {
-    assert_eq!(rt; wrong_in(&rt, cases::NATS)?, None);
+    assert_eq!(rt; wrong_in(&rt, cases::nat::NATS)?, None);
     Ok(())
 }
 
-/// Whole runs of a firewall: a connection, two replaces at once, and packets that are denied.
+/// As many flows as a generated load has at most.
+#[test]
+fn many_flows(rt: HostRuntime) -> Result<(), Failed> {
+    assert_eq!(rt; wrong_in(&rt, cases::nat::FLOWS)?, None);
+    Ok(())
+}
+
+/// Orphans and their sweeps, also beside instances that claim.
+#[test]
+fn sweeps(rt: HostRuntime) -> Result<(), Failed> {
+    assert_eq!(rt; wrong_in(&rt, cases::sweep::SWEEPS)?, None);
+    Ok(())
+}
+
+/// A sweep that is stopped after each of its accesses.
+#[test]
+fn stopped_sweeps(rt: HostRuntime) -> Result<(), Failed> {
+    assert_eq!(rt; wrong_in(&rt, cases::sweep::STOPPED_SWEEPS)?, None);
+    Ok(())
+}
+
+/// A sweep of 64,512 ports.
+#[test]
+fn wide_sweep(rt: HostRuntime) -> Result<(), Failed> {
+    assert_eq!(rt; wrong_in(&rt, cases::sweep::WIDE_SWEEP)?, None);
+    Ok(())
+}
+
+/// Whole runs of a firewall: connections that open, close and open anew, from both sides, and many replaces at once.
 #[test]
 fn firewalls(rt: HostRuntime) -> Result<(), Failed> {
-    assert_eq!(rt; wrong_in(&rt, cases::FIREWALLS)?, None);
+    assert_eq!(rt; wrong_in(&rt, cases::firewall::FIREWALLS)?, None);
+    Ok(())
+}
+
+/// Rules, each field of which decides, and 256 of them.
+#[test]
+fn rules(rt: HostRuntime) -> Result<(), Failed> {
+    assert_eq!(rt; wrong_in(&rt, cases::firewall::RULES)?, None);
     Ok(())
 }
 
 /// Frames without a view, files that aren't there, faults, and words of no form.
 #[test]
 fn faults(rt: HostRuntime) -> Result<(), Failed> {
-    assert_eq!(rt; wrong_in(&rt, cases::FAULTS)?, None);
+    assert_eq!(rt; wrong_in(&rt, cases::fault::FAULTS)?, None);
     Ok(())
 }
 
 /// Captures and plans that are refused, each with its status and its fault line.
 #[test]
 fn refusals(rt: HostRuntime) -> Result<(), Failed> {
-    assert_eq!(rt; wrong_in(&rt, cases::REFUSALS)?, None);
+    assert_eq!(rt; wrong_in(&rt, cases::fault::REFUSALS)?, None);
     Ok(())
 }
 
 /// Runs of many packets, epochs and instances.
 #[test]
 fn many(rt: HostRuntime) -> Result<(), Failed> {
-    assert_eq!(rt; wrong_in(&rt, cases::MANY)?, None);
+    assert_eq!(rt; wrong_in(&rt, cases::many::MANY)?, None);
     Ok(())
 }
 
@@ -308,10 +405,10 @@ fn first_other(first: &mut Scene, second: &mut Scene) -> Result<Option<&'static 
 
 /// Which line of the text isn't so, or which file differs, where the text runs in both scenes.
 fn unlike(first: &mut Scene, second: &mut Scene) -> Result<Option<&'static str>, Failed> {
-    if let Some(line) = first_wrong(first, cases::SEEDS)? {
+    if let Some(line) = first_wrong(first, cases::many::SEEDS)? {
         return Ok(Some(line));
     }
-    if let Some(line) = first_wrong(second, cases::SEEDS)? {
+    if let Some(line) = first_wrong(second, cases::many::SEEDS)? {
         return Ok(Some(line));
     }
     first_other(first, second)

@@ -7,35 +7,35 @@ use Rattle.slnf_top.proofs.commands.top_plain.Goals as goal
 pub returns-in-Some-clause-plan_refused : goal.returns-in-Some-clause-plan_refused
 returns-in-Some-clause-plan_refused g c = λ command is plan bytes named plan_at.
     let a = g.S.Shelf.faults c.args.shelf.now in
-    let b = g.S.Shelf.faults c.run_step.new.shelf in
+    let b = g.S.Shelf.faults c.run_command.new.shelf in
     let held = g.S.Shelf.holds c.args.shelf.now in
-    let holds = g.S.Shelf.holds c.run_step.new.shelf in
-    let ended = c.run_step.result in
+    let holds = g.S.Shelf.holds c.run_command.new.shelf in
+    let ended = c.run_command.result in
     let all =
-    ended_as (map string_bytes c.args.words.now) _ command ended a b held holds c.in-Some.ensures.some is
-    c.run_step.ensures in
+    ended_as (map string_bytes c.args.words.now) _ command ended a b held holds c.in-Some.ensures is
+    c.run_command.ensures in
     follows_plan command ended a b held holds plan bytes all named plan_at
 
 pub returns-in-Some-clause-first_refused : goal.returns-in-Some-clause-first_refused
 returns-in-Some-clause-first_refused g c = λ command bytes is are refusing.
     let a = g.S.Shelf.faults c.args.shelf.now in
-    let b = g.S.Shelf.faults c.run_step.new.shelf in
+    let b = g.S.Shelf.faults c.run_command.new.shelf in
     let held = g.S.Shelf.holds c.args.shelf.now in
-    let holds = g.S.Shelf.holds c.run_step.new.shelf in
-    let ended = c.run_step.result in
+    let holds = g.S.Shelf.holds c.run_command.new.shelf in
+    let ended = c.run_command.result in
     let all =
-    ended_as (map string_bytes c.args.words.now) _ command ended a b held holds c.in-Some.ensures.some is
-    c.run_step.ensures in
+    ended_as (map string_bytes c.args.words.now) _ command ended a b held holds c.in-Some.ensures is
+    c.run_command.ensures in
     first_of held (inputs_of command) ended bytes (all.reached refusing) are
 
 pub returns-in-Some-clause-answered : goal.returns-in-Some-clause-answered
 returns-in-Some-clause-answered g c = λ command bytes is are none still.
     let a = g.S.Shelf.faults c.args.shelf.now in
-    let b = g.S.Shelf.faults c.run_step.new.shelf in
+    let b = g.S.Shelf.faults c.run_command.new.shelf in
     let held = g.S.Shelf.holds c.args.shelf.now in
-    let holds = g.S.Shelf.holds c.run_step.new.shelf in
-    let ended = c.run_step.result in
+    let holds = g.S.Shelf.holds c.run_command.new.shelf in
+    let ended = c.run_command.result in
     let all =
-    ended_as (map string_bytes c.args.words.now) _ command ended a b held holds c.in-Some.ensures.some is
-    c.run_step.ensures in
+    ended_as (map string_bytes c.args.words.now) _ command ended a b held holds c.in-Some.ensures is
+    c.run_command.ensures in
     completes command ended a b held holds bytes all are none still

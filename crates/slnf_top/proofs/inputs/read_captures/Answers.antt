@@ -1,8 +1,14 @@
 use Rattle.std.proofs.Common.{map, arith}
 use Rattle.std.specs.Prelude.{string_bytes}
 use Rattle.std.proofs.lemmas.Result.{err_from_is_err_and}
-use Rattle.slnf_top.proofs.Reading.{moves_at, next_at, refused_in, reads_over}
+use Rattle.slnf_top.proofs.Reading.{reads_begin, moves_at, next_at, refused_in, reads_over}
 use Rattle.slnf_top.proofs.inputs.read_captures.Goals as goal
+
+pub loop-name-init : goal.loop-name-init
+loop-name-init g c =
+    reads_begin (g.S.Shelf.faults c.args.shelf.now) (g.S.Shelf.holds c.args.shelf.now)
+    (map string_bytes c.args.names.now)
+    c.new-given.result.items c.new-lanes.result.items c.new-given.ensures.items c.new-lanes.ensures.items
 
 pub returns-in_err-next-clause-counts : goal.returns-in_err-next-clause-counts
 returns-in_err-next-clause-counts g c =

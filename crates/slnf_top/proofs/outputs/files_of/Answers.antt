@@ -14,7 +14,7 @@ returns c =
     let outcome = c.args.outcome.now in
     three_more (capture_files out 0 c.args.given.now outcome.verdicts)
     c.in_ok-files.files.items c.push.new.self.items c.push-2.new.self.items c.push-3.new.self.items
-    c.of.result c.of-2.result c.of-3.result
+    c.of.result c.of-2.result c.in_ok-summary_file.field-0
     (record { name = verdicts_name out; text = verdicts_text outcome.verdicts })
     (record { name = journal_name out; text = journal_text outcome.journal })
     (record { name = summary_name; text = summary_text outcome.verdicts outcome.journal })
@@ -26,6 +26,4 @@ returns c =
     (file_is (string_bytes c.in_ok-journal_name.field-0) (journal_name out) c.in_ok-journal.journal.items
     (journal_text outcome.journal) c.of-2.result
     c.of-2.ensures c.in_ok-journal_name.ensures (c.in_ok-journal.ensures ∙ ap journal_text c.as_slice.ensures))
-    (file_is (string_bytes c.in_ok-from_str.field-0) summary_name c.in_ok-summary.summary.items
-    (summary_text outcome.verdicts outcome.journal) c.of-3.result
-    c.of-3.ensures c.in_ok-from_str.ensures.ok c.in_ok-summary.ensures)
+    c.in_ok-summary_file.ensures
