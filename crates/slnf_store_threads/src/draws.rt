@@ -28,7 +28,7 @@ pub struct Draw {
 
 impl Draws {
     /// The rounds of a caller among so many.
-    pub fn of(caller: u64, callers: u32) -> Draws
+    pub(crate) fn of(caller: u64, callers: u32) -> Draws
         requires { (0 < callers) × (callers ≤ 64) }
     {
         Draws {
@@ -39,7 +39,7 @@ impl Draws {
     }
 
     /// The next round.
-    pub fn next(&mut self) -> Draw {
+    pub(crate) fn next(&mut self) -> Draw {
         let word = self.words.next_u64();
         let place = (word >> 32) % self.keys;
         let key = FIRST_KEY + (u128::from(self.caller) << 16) + u128::from(place);
@@ -52,12 +52,12 @@ impl Draws {
 
 impl Draw {
     /// The look at the key.
-    pub fn look(self) -> Request {
+    pub(crate) fn look(self) -> Request {
         Request::Read { key: self.key }
     }
 
     /// What is written after the look: an absent key is put, and of eight that are found one is deleted and one replaced.
-    pub fn write(self, reply: Reply) -> Option<Request> {
+    pub(crate) fn write(self, reply: Reply) -> Option<Request> {
         let Draw { key, word } = self;
         let value = Value(u128::from(word));
         match (reply, word % 8) {

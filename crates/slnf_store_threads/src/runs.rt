@@ -104,7 +104,7 @@ pub fn run<R: Threads + Wait + Sync>(
 }
 
 /// How many accesses there are in all.
-pub fn count(histories: &[Vec<Entry>]) -> usize {
+pub(crate) fn count(histories: &[Vec<Entry>]) -> usize {
     histories
         .iter()
         .fold(0usize, |count, history| count.wrapping_add(history.len()))
