@@ -10,7 +10,7 @@ use Rattle.std.proofs.lemmas.Cmp.{nat_eq_equiv}
 use Rattle.std.proofs.lemmas.Bool.{and_from, eq-eqb}
 use Rattle.slnf_base.specs.declared.addresses.Pair.{Pair}
 use Rattle.slnf_base.specs.declared.packets.Proto.{Proto}
-use Rattle.slnf_lb.specs.Box.{with_pin}
+use Rattle.slnf_box.specs.LbBox.{with_pin}
 use Rattle.slnf_box.specs.declared.pairs.End.{End}
 use Rattle.slnf_box.specs.Pairs.{end_cmp, end_of, is_same_end, pair_at, put_in, taken_from}
 

@@ -12,9 +12,9 @@ use Rattle.slnf_base.specs.declared.packets.Verdict.TheVariants.{Dropped}
 use Rattle.slnf_base.specs.declared.plans.Pool.{Pool}
 use Rattle.slnf_base.specs.Numbers.{proto_number}
 use Rattle.slnf_base.specs.Equal.{is_same_pair, is_same_proto}
-use Rattle.slnf_lb.specs.Box.{with_pin}
-use Rattle.slnf_nat.specs.NatBox.{Flow, pair_of, owner, free_choice, out_verdict, in_verdict, out_next, nat_verdict, nat_next}
-use Rattle.slnf_nat.specs.Pools.{nat_of, is_outbound, is_inbound}
+use Rattle.slnf_box.specs.LbBox.{with_pin}
+use Rattle.slnf_box.specs.NatBox.{Flow, pair_of, owner, free_choice, out_verdict, in_verdict, out_next, nat_verdict, nat_next}
+use Rattle.slnf_box.specs.Pools.{nat_of, is_outbound, is_inbound}
 use Rattle.slnf_box.specs.Tables.{fresh_choice, pairs_with, owners_with, table_verdict, table_pairs, table_owners}
 
 -- the tests from the other side

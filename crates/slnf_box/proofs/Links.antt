@@ -10,8 +10,8 @@ use Rattle.slnf_base.specs.declared.addresses.Pair.{Pair}
 use Rattle.slnf_base.specs.Equal.{is_same_pair}
 use Rattle.slnf_keys.specs.declared.keys.ConnKey.{ConnKey}
 use Rattle.slnf_run.specs.Tables.{with_value}
-use Rattle.slnf_fw.specs.declared.flights.Tracked.{Tracked}
-use Rattle.slnf_fw.specs.Box.{is_same_conn}
+use Rattle.slnf_box.specs.FwBox.{is_same_conn}
+use Rattle.slnf_box.specs.declared.choices.Tracked.{Tracked}
 use Rattle.slnf_box.specs.declared.conns.Link.{Link}
 use Rattle.slnf_box.specs.Conns.{link_of, is_same_link, conn_at}
 use Rattle.slnf_box.proofs.Ends.{tells, both_are, lookup_same}

@@ -1,5 +1,5 @@
 -- What an ordinary balancer keeps.
-use Rattle.slnf_lb.specs.Box.{Pins}
+use Rattle.slnf_box.specs.LbBox.{Pins}
 use Rattle.slnf_box.specs.declared.balancer.LbBox.{LbBox}
 use Rattle.slnf_box.specs.Pairs.{pair_at}
 

@@ -4,8 +4,8 @@ use Rattle.std.specs.Map.{lookup}
 use Rattle.slnf_base.specs.Numbers.{proto_number}
 use Rattle.slnf_base.specs.Equal.{is_same_pair}
 use Rattle.slnf_keys.specs.declared.keys.ConnKey.{ConnKey}
-use Rattle.slnf_fw.specs.declared.flights.Tracked.{Tracked}
-use Rattle.slnf_fw.specs.Box.{Conns}
+use Rattle.slnf_box.specs.FwBox.{Conns}
+use Rattle.slnf_box.specs.declared.choices.Tracked.{Tracked}
 use Rattle.slnf_box.specs.declared.conns.Link.{Link}
 
 -- the key of a connection

@@ -1,5 +1,5 @@
 -- What an ordinary firewall keeps.
-use Rattle.slnf_fw.specs.Box.{Conns}
+use Rattle.slnf_box.specs.FwBox.{Conns}
 use Rattle.slnf_box.specs.declared.firewall.FwBox.{FwBox}
 use Rattle.slnf_box.specs.Conns.{conn_at}
 

@@ -1,3 +1,11 @@
+pub mod Nat
+pub mod Pools
+pub mod NatBox
+pub mod Services
+pub mod LbBox
+pub mod Packets
+pub mod Choices
+pub mod FwBox
 pub mod Pairs
 pub mod Balancer
 pub mod Conns

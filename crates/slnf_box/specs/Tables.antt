@@ -6,9 +6,9 @@ use Rattle.slnf_base.specs.declared.packets.Reason.TheVariants.{Neither}
 use Rattle.slnf_base.specs.declared.packets.Verdict.{Verdict}
 use Rattle.slnf_base.specs.declared.packets.Verdict.TheVariants.{Dropped}
 use Rattle.slnf_base.specs.declared.plans.Pool.{Pool}
-use Rattle.slnf_lb.specs.Box.{Pins, with_pin}
-use Rattle.slnf_nat.specs.NatBox.{is_free, out_verdict, in_verdict}
-use Rattle.slnf_nat.specs.Pools.{has_pair, is_outbound, is_inbound}
+use Rattle.slnf_box.specs.LbBox.{Pins, with_pin}
+use Rattle.slnf_box.specs.NatBox.{is_free, out_verdict, in_verdict}
+use Rattle.slnf_box.specs.Pools.{has_pair, is_outbound, is_inbound}
 
 -- the choice, where it is a pair of the pool that no flow of the protocol has
 abbrev pub fresh_choice : Pool → Pins → Packet → Option Pair → Option Pair

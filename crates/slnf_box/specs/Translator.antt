@@ -1,7 +1,7 @@
 -- What an ordinary NAT keeps.
 use Rattle.std.specs.Prelude.{◌≡◌, List}
-use Rattle.slnf_lb.specs.Box.{Pins}
-use Rattle.slnf_nat.specs.NatBox.{Flow, pair_of, owner}
+use Rattle.slnf_box.specs.LbBox.{Pins}
+use Rattle.slnf_box.specs.NatBox.{Flow, pair_of, owner}
 use Rattle.slnf_box.specs.declared.translator.NatBox.{NatBox}
 use Rattle.slnf_box.specs.Pairs.{pair_at}
 

@@ -1,10 +1,9 @@
 ghost use Rattle.std.specs.Prelude.{◌≡◌, IfOk, OnOk, OnErr};
-ghost use Rattle.slnf_lb.specs.Box.{return_verdict};
-ghost use Rattle.slnf_lb.specs.Scene.{lb_box};
+ghost use Rattle.slnf_box.specs.LbBox.{return_verdict, lb_box};
 
 use crate::pairs::PairTable;
+use crate::services::{is_forward, is_return};
 use slnf_base::{Change, NoMemory, Packet, Pair, Reason, Service, Verdict};
-use slnf_lb::{is_forward, is_return};
 use std::alloc::Global;
 
 /// The ordinary balancer: it pins each client to a backend.

@@ -1,10 +1,10 @@
 ghost use Rattle.std.specs.Prelude.{◌≡◌, OnOk, OnErr, []};
 ghost use Rattle.slnf_run.specs.Tables.{with_value};
-ghost use Rattle.slnf_fw.specs.Box.{is_same_conn};
+ghost use Rattle.slnf_box.specs.FwBox.{is_same_conn};
 ghost use Rattle.slnf_box.specs.Conns.{conn_at};
 
+use crate::choices::Tracked;
 use slnf_base::{NoMemory, Pair};
-use slnf_fw::Tracked;
 use slnf_keys::ConnKey;
 use std::alloc::Global;
 use std::collections::BTreeMap;
@@ -39,7 +39,7 @@ pub struct ConnTable {
 
 impl Model for ConnTable {
     ghost use Rattle.std.specs.Prelude.{List};
-    ghost use Rattle.slnf_fw.specs.declared.flights.Tracked.{Tracked};
+    ghost use Rattle.slnf_box.specs.declared.choices.Tracked.{Tracked};
     ghost use Rattle.slnf_box.specs.declared.conns.Link.{Link};
 
     ghost Value = { List (Link × Tracked) };

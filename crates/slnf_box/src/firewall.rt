@@ -1,12 +1,11 @@
 ghost use Rattle.std.specs.Prelude.{◌≡◌, IfOk, OnOk, OnErr};
-ghost use Rattle.slnf_fw.specs.FunctionPolicy.{policy_of};
-ghost use Rattle.slnf_fw.specs.Box.{fw_choice, fw_box, choice_verdict, choice_conns};
+ghost use Rattle.slnf_box.specs.FwBox.{fw_choice, fw_box, choice_verdict, choice_conns};
 ghost use Rattle.slnf_box.specs.Conns.{conn_at};
 
-use crate::choices::{choice_of, conn_of_packet};
+use crate::choices::Choice;
 use crate::conns::ConnTable;
+use crate::policies::Policy;
 use slnf_base::{Change, NoMemory, Packet, Prefix, Reason, Row, Verdict};
-use slnf_fw::{Choice, FwFunction};
 use slnf_fw_table::Rule;
 use slnf_keys::ConnKey;
 use std::alloc::Global;
@@ -14,18 +13,18 @@ use std::alloc::Global;
 /// The ordinary firewall: it keeps what each connection has come to.
 #[derive(Drop)]
 pub struct FwBox {
-    policy: FwFunction,
+    policy: Policy,
     conns: ConnTable,
 }
 
 ghost use Rattle.slnf_box.specs.Firewall.{conns_of};
 
 /// What the box makes of a packet.
-fn fw_choice(policy: &FwFunction, conns: &ConnTable, packet: &Packet) -> Choice
-    ensures { result ≡ fw_choice (policy_of policy.now) (conn_at conns.now) packet.now }
+fn fw_choice(policy: &Policy, conns: &ConnTable, packet: &Packet) -> Choice
+    ensures { result ≡ fw_choice policy.now (conn_at conns.now) packet.now }
 {
     if policy.crosses(packet) {
-        choice_of(policy, packet, conns.at(conn_of_packet(policy, packet)))
+        policy.choice_of(packet, conns.at(policy.conn_of_packet(packet)))
     } else {
         Choice::Refuses(Reason::Neither)
     }
@@ -50,11 +49,11 @@ fn carry_out(conns: &mut ConnTable, key: ConnKey, choice: Choice) -> Result<Verd
 impl FwBox {
     /// The box of these rules, between the addresses of `inside` and all others, with no connection.
     pub fn make(alloc: Global, inside: Prefix, rules: Row<Rule>) -> FwBox
-        ensures policy { policy_of result.policy ≡ record { inside = inside; rules = rules } }
+        ensures policy { result.policy ≡ record { inside = inside; rules = rules } }
         ensures empty { conns_of result ≡ (fw_box (record { inside = inside; rules = rules })).empty }
     {
         FwBox {
-            policy: FwFunction { inside, rules },
+            policy: Policy { inside, rules },
             conns: ConnTable::make(alloc),
         }
     }
@@ -62,14 +61,14 @@ impl FwBox {
     /// What the box does with a packet.
     pub fn handle(&mut self, packet: &Packet) -> Result<Verdict, NoMemory>
         ensures verdict { IfOk result (λ verdict. verdict
-            ≡ (fw_box (policy_of self.old.policy)).verdict (conns_of self.old) packet.now) }
+            ≡ (fw_box self.old.policy).verdict (conns_of self.old) packet.now) }
         ensures next { OnOk result (conns_of self.new
-            ≡ (fw_box (policy_of self.old.policy)).next (conns_of self.old) packet.now) }
+            ≡ (fw_box self.old.policy).next (conns_of self.old) packet.now) }
         ensures policy { self.new.policy ≡ self.old.policy }
         ensures err { OnErr result (self.new ≡ self.old) }
     {
         let choice = fw_choice(&self.policy, &self.conns, packet);
-        let key = conn_of_packet(&self.policy, packet);
+        let key = self.policy.conn_of_packet(packet);
         carry_out(&mut self.conns, key, choice)
     }
 }

@@ -1,5 +1,5 @@
 ghost use Rattle.std.specs.Prelude.{◌≡◌, IfOk, OnOk, OnErr, []};
-ghost use Rattle.slnf_lb.specs.Box.{with_pin, backend_or};
+ghost use Rattle.slnf_box.specs.LbBox.{with_pin, backend_or};
 ghost use Rattle.slnf_box.specs.Pairs.{pair_at, put_in, taken_from};
 
 use slnf_base::{NoMemory, Pair, Proto};

@@ -1,13 +1,13 @@
 ghost use Rattle.std.specs.Prelude.{◌≡◌, IfOk, OnOk, OnErr, None, List};
-ghost use Rattle.slnf_lb.specs.Box.{with_pin};
-ghost use Rattle.slnf_nat.specs.NatBox.{Flow, nat_box, out_verdict, in_verdict};
-ghost use Rattle.slnf_nat.specs.Pools.{nat_of, has_pair};
+ghost use Rattle.slnf_box.specs.LbBox.{with_pin};
+ghost use Rattle.slnf_box.specs.NatBox.{Flow, nat_box, out_verdict, in_verdict};
+ghost use Rattle.slnf_box.specs.Pools.{nat_of};
 ghost use Rattle.slnf_box.specs.Pairs.{pair_at};
 ghost use Rattle.slnf_box.specs.Tables.{fresh_choice, pairs_with, owners_with, table_verdict, table_pairs, table_owners};
 
 use crate::pairs::PairTable;
+use crate::pools::{has_pair, is_inbound, is_outbound};
 use slnf_base::{Change, NoMemory, Packet, Pair, Pool, Proto, Reason, Verdict};
-use slnf_nat::{is_inbound, is_outbound};
 use std::alloc::Global;
 
 /// The ordinary NAT: it keeps each flow's outside pair, and the flow of each outside pair.
@@ -19,13 +19,6 @@ pub struct NatBox {
 }
 
 ghost use Rattle.slnf_box.specs.Translator.{pairs_of, owners_of, HasFlows};
-
-/// Whether the pair is one of the pool's.
-fn has_pair(pool: &Pool, pair: Pair) -> bool
-    ensures { result ≡ has_pair pool.now pair }
-{
-    pair.addr == pool.outside && pool.low <= pair.port && pair.port <= pool.high
-}
 
 /// The choice, where it is a pair of the pool that no flow of the protocol has.
 fn fresh_choice(

@@ -13,15 +13,15 @@ use Rattle.slnf_keys.specs.declared.values.Claim.{Claim}
 use Rattle.slnf_keys.specs.declared.values.FlowTo.{FlowTo}
 use Rattle.slnf_keys.specs.Values.{flow_to_of, claim_of}
 use Rattle.slnf_run.specs.Cases.{start_as}
+use Rattle.slnf_box.specs.Nat.{Nat}
+use Rattle.slnf_box.specs.Pools.{is_outbound, is_inbound, nat_of}
 use Rattle.slnf_nat.specs.Behaviour.{nat_steps}
 use Rattle.slnf_nat.specs.declared.flights.OutState.{OutState}
 use Rattle.slnf_nat.specs.declared.flights.OutState.TheVariants.{Look, Try, Confirm, Release, Last}
 use Rattle.slnf_nat.specs.declared.flights.InState.{InState}
 use Rattle.slnf_nat.specs.declared.flights.InState.TheVariants.{LookPort, LookFlow}
 use Rattle.slnf_nat.specs.Flights.{NatFlight, Out, In, Sweep}
-use Rattle.slnf_nat.specs.Machine.{Nat, looked, released, claimed, entered, goes_out, goes_in}
-use Rattle.slnf_nat.specs.Pools.{is_outbound, is_inbound, nat_of}
-use Rattle.slnf_fw.specs.FunctionPolicy.{policy_of}
+use Rattle.slnf_nat.specs.Machine.{looked, released, claimed, entered, goes_out, goes_in}
 use Rattle.slnf_fw.specs.Flight.{Flying as FwFlying}
 use Rattle.slnf_fw.specs.Machine.{fw_begins, fw_behaviour}
 use Rattle.slnf_lb.specs.Flight.{Flying as LbFlying}
@@ -62,7 +62,7 @@ starts_packet : (function : AnyFunction) (incarnation number : ℕ) (packet : Pa
     StartsPacket ((any_behaviour function).begins incarnation number packet)
 starts_packet (AnyNat function) incarnation number packet =
     nat_start_is (is_outbound function.pool packet) (is_inbound function.pool packet) incarnation packet
-starts_packet (AnyFirewall function) incarnation number packet = fw_start_is (fw_begins (policy_of function) packet)
+starts_packet (AnyFirewall function) incarnation number packet = fw_start_is (fw_begins function.policy packet)
 starts_packet (AnyBalancer function) incarnation number packet =
     lb_start_is (lb_begins function.service function.active incarnation number packet)
 
@@ -138,7 +138,7 @@ steps_packet (AnyNat function) (FwFlies flight) reply = tt
 steps_packet (AnyNat function) (LbFlies flight) reply = tt
 steps_packet (AnyFirewall function) (NatFlies flight) reply = tt
 steps_packet (AnyFirewall function) (FwFlies flight) reply =
-    fw_step_is ((fw_behaviour (policy_of function)).goes flight reply)
+    fw_step_is ((fw_behaviour function.policy).goes flight reply)
 steps_packet (AnyFirewall function) (LbFlies flight) reply = tt
 steps_packet (AnyBalancer function) (NatFlies flight) reply = tt
 steps_packet (AnyBalancer function) (FwFlies flight) reply = tt

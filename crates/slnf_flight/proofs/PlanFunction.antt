@@ -15,12 +15,11 @@ use Rattle.slnf_plan.specs.declared.plan.FunctionPlan.{FunctionPlan}
 use Rattle.slnf_plan.specs.declared.plan.FunctionPlan.TheVariants.{Nat, Firewall, Balancer}
 use Rattle.slnf_run.specs.Cases.{case_asks, case_decided, case_goes, start_as}
 use Rattle.slnf_run.specs.Images.{stand_as}
+use Rattle.slnf_box.specs.Pools.{nat_of}
 use Rattle.slnf_nat.specs.Behaviour.{nat_behaviour, IsPacketFlight as IsNatPacketFlight}
 use Rattle.slnf_nat.specs.Flights.{NatFlight, Out, In, Sweep}
 use Rattle.slnf_nat.specs.Machine.{nat_asks, nat_goes, nat_machine}
-use Rattle.slnf_nat.specs.Pools.{nat_of}
 use Rattle.slnf_fw.specs.declared.functions.FwFunction.{FwFunction}
-use Rattle.slnf_fw.specs.FunctionPolicy.{policy_of}
 use Rattle.slnf_fw.specs.Machine.{fw_asks, fw_begins, fw_behaviour, fw_goes, fw_machine}
 use Rattle.slnf_lb.specs.Machine.{lb_begins, lb_behaviour, lb_goes, lb_machine}
 use Rattle.slnf_flight.specs.declared.flights.AnyFlight.{AnyFlight}
@@ -37,9 +36,9 @@ use Rattle.slnf_flight.specs.Functions.{any_behaviour, case_steps, step_as, IsFu
 
 -- the firewall's policy is the plan's
 same_policy : (inside : Prefix) (rules : List Rule) (function : FwFunction) →
-    (function.inside ≡ inside) × (function.rules ≡ rules) → policy_of function ≡ policy_with inside rules
+    (function.policy.inside ≡ inside) × (function.policy.rules ≡ rules) → function.policy ≡ policy_with inside rules
 same_policy inside rules function h =
-    ap (λ i. policy_with i function.rules) h.0 ∙ ap (policy_with inside) h.1
+    ap (λ i. policy_with i function.policy.rules) h.0 ∙ ap (policy_with inside) h.1
 
 -- a packet starts as the plan says
 pub starts_are_plans : (plan_function : FunctionPlan) (epoch : Option Epoch) (function : AnyFunction) →
@@ -92,7 +91,7 @@ asks_are_plans (Nat pool) epoch (AnyFirewall function) h flight = absurd h
 asks_are_plans (Nat pool) epoch (AnyBalancer function) h flight = absurd h
 asks_are_plans (Firewall inside rules) epoch (AnyNat function) h flight = absurd h
 asks_are_plans (Firewall inside rules) epoch (AnyFirewall function) h flight =
-    same_asked (fw_machine (policy_of function)) (fw_machine (policy_with inside rules)) (fw_flight flight)
+    same_asked (fw_machine function.policy) (fw_machine (policy_with inside rules)) (fw_flight flight)
     (λ own. ap (λ p. fw_asks p own) (same_policy inside rules function h))
 asks_are_plans (Firewall inside rules) epoch (AnyBalancer function) h flight = absurd h
 asks_are_plans (Balancer service) epoch (AnyNat function) h flight = absurd h
@@ -112,7 +111,7 @@ decided_are_plans (Nat pool) epoch (AnyFirewall function) h flight = absurd h
 decided_are_plans (Nat pool) epoch (AnyBalancer function) h flight = absurd h
 decided_are_plans (Firewall inside rules) epoch (AnyNat function) h flight = absurd h
 decided_are_plans (Firewall inside rules) epoch (AnyFirewall function) h flight =
-    same_decided (fw_machine (policy_of function)) (fw_machine (policy_with inside rules)) (fw_flight flight)
+    same_decided (fw_machine function.policy) (fw_machine (policy_with inside rules)) (fw_flight flight)
     (λ own. refl)
 decided_are_plans (Firewall inside rules) epoch (AnyBalancer function) h flight = absurd h
 decided_are_plans (Balancer service) epoch (AnyNat function) h flight = absurd h
@@ -159,7 +158,7 @@ goes_are_plans (Nat pool) epoch (AnyFirewall function) h flight reply is = absur
 goes_are_plans (Nat pool) epoch (AnyBalancer function) h flight reply is = absurd h
 goes_are_plans (Firewall inside rules) epoch (AnyNat function) h flight reply is = absurd h
 goes_are_plans (Firewall inside rules) epoch (AnyFirewall function) h flight reply is =
-    same_gone FwFlies (fw_behaviour (policy_of function)) (fw_machine (policy_with inside rules)) (fw_flight flight)
+    same_gone FwFlies (fw_behaviour function.policy) (fw_machine (policy_with inside rules)) (fw_flight flight)
     reply
     (λ own e. ap (λ p. stand_of_step (fw_goes p own reply)) (same_policy inside rules function h))
 goes_are_plans (Firewall inside rules) epoch (AnyBalancer function) h flight reply is = absurd h

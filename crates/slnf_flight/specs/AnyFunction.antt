@@ -6,13 +6,14 @@ use Rattle.slnf_access.specs.Machines.{Machine}
 use Rattle.slnf_plan.specs.declared.plan.FunctionPlan.{FunctionPlan}
 use Rattle.slnf_plan.specs.declared.plan.FunctionPlan.TheVariants.{Nat, Firewall, Balancer}
 use Rattle.slnf_plan.specs.declared.plan.Epoch.{Epoch}
+use Rattle.slnf_box.specs.Pools.{nat_of}
 use Rattle.slnf_nat.specs.Machine.{nat_machine}
 use Rattle.slnf_fw.specs.Machine.{fw_begins, fw_machine}
 use Rattle.slnf_lb.specs.Machine.{lb_begins, lb_machine}
 use Rattle.slnf_flight.specs.declared.flights.AnyFlight.{AnyFlight}
 use Rattle.slnf_flight.specs.declared.flights.AnyFlight.TheVariants.{Nat as NatFlies, Firewall as FwFlies, Balancer as LbFlies}
 use Rattle.slnf_run.specs.Cases.{start_as, case_machine}
-use Rattle.slnf_nat.specs.Pools.{nat_of, nat_starts}
+use Rattle.slnf_nat.specs.Starts.{nat_starts}
 use Rattle.slnf_flight.specs.FwPlan.{policy_with}
 use Rattle.slnf_flight.specs.LbPlan.{active_in}
 use Rattle.slnf_flight.specs.PlanSetting.{nat_case, fw_case, lb_case}

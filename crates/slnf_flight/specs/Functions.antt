@@ -16,7 +16,6 @@ use Rattle.slnf_plan.specs.declared.plan.Epoch.{Epoch}
 use Rattle.slnf_run.specs.Cases.{case_asks, case_decided, start_as}
 use Rattle.slnf_nat.specs.Behaviour.{nat_behaviour}
 use Rattle.slnf_nat.specs.Refuses.{nat_refuses}
-use Rattle.slnf_fw.specs.FunctionPolicy.{policy_of}
 use Rattle.slnf_fw.specs.Machine.{fw_behaviour}
 use Rattle.slnf_fw.specs.Refuses.{fw_refuses}
 use Rattle.slnf_lb.specs.Machine.{lb_behaviour}
@@ -50,7 +49,7 @@ behaviour_as into own b = record {
 -- what the function does with packets
 abbrev pub any_behaviour : AnyFunction → Behaviour AnyFlight
 any_behaviour (AnyNat function) = behaviour_as NatFlies nat_flight (nat_behaviour function.pool)
-any_behaviour (AnyFirewall function) = behaviour_as FwFlies fw_flight (fw_behaviour (policy_of function))
+any_behaviour (AnyFirewall function) = behaviour_as FwFlies fw_flight (fw_behaviour function.policy)
 any_behaviour (AnyBalancer function) = behaviour_as LbFlies lb_flight (lb_behaviour function.service function.active)
 
 -- one of a case is refused as it is
@@ -65,7 +64,7 @@ pub any_refuses : (function : AnyFunction) (incarnation number : ℕ) (packet : 
 any_refuses (AnyNat function) incarnation number packet reason h =
     nat_refuses function.pool incarnation number packet reason (refused_as NatFlies _ reason h)
 any_refuses (AnyFirewall function) incarnation number packet reason h =
-    fw_refuses (policy_of function) packet reason (refused_as FwFlies _ reason h)
+    fw_refuses function.policy packet reason (refused_as FwFlies _ reason h)
 any_refuses (AnyBalancer function) incarnation number packet reason h =
     lb_refuses function.service function.active incarnation number packet reason (refused_as LbFlies _ reason h)
 
@@ -77,7 +76,7 @@ IsFunctionOf (Nat pool) epoch (AnyFirewall function) = ⊥
 IsFunctionOf (Nat pool) epoch (AnyBalancer function) = ⊥
 IsFunctionOf (Firewall inside rules) epoch (AnyNat function) = ⊥
 IsFunctionOf (Firewall inside rules) epoch (AnyFirewall function) =
-    (function.inside ≡ inside) × (function.rules ≡ rules)
+    (function.policy.inside ≡ inside) × (function.policy.rules ≡ rules)
 IsFunctionOf (Firewall inside rules) epoch (AnyBalancer function) = ⊥
 IsFunctionOf (Balancer service) epoch (AnyNat function) = ⊥
 IsFunctionOf (Balancer service) epoch (AnyFirewall function) = ⊥

@@ -4,7 +4,7 @@ use Rattle.slnf_base.specs.declared.addresses.Prefix.{Prefix}
 use Rattle.slnf_base.specs.declared.packets.Packet.{Packet}
 use Rattle.slnf_access.specs.declared.functions.Start.{Start}
 use Rattle.slnf_fw_table.specs.declared.rules.Rule.{Rule}
-use Rattle.slnf_fw.specs.Packets.{Policy}
+use Rattle.slnf_box.specs.declared.policies.Policy.{Policy}
 use Rattle.slnf_fw.specs.Flight.{Flying}
 use Rattle.slnf_fw.specs.Machine.{fw_begins}
 

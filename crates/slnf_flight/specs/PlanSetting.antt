@@ -11,14 +11,16 @@ use Rattle.slnf_plan.specs.declared.plan.Epoch.{Epoch}
 use Rattle.slnf_plan.specs.declared.plan.Plan.{Plan}
 use Rattle.slnf_run.specs.Scene.{Scene}
 use Rattle.slnf_run.specs.Setting.{Setting}
+use Rattle.slnf_box.specs.LbBox.{LbArrival}
+use Rattle.slnf_box.specs.NatBox.{NatArrival}
+use Rattle.slnf_box.specs.Pools.{port_count, nat_of}
+use Rattle.slnf_box.specs.declared.policies.Policy.{Policy}
 use Rattle.slnf_nat.specs.Flights.{NatFlight}
-use Rattle.slnf_nat.specs.NatBox.{NatArrival}
 use Rattle.slnf_nat.specs.NatScene.{nat_scene}
-use Rattle.slnf_fw.specs.Packets.{Policy}
 use Rattle.slnf_fw.specs.Flight.{Flying as FwFlying}
 use Rattle.slnf_fw.specs.Scene.{fw_scene}
 use Rattle.slnf_lb.specs.Flight.{Flying as LbFlying}
-use Rattle.slnf_lb.specs.Scene.{LbArrival, lb_scene}
+use Rattle.slnf_lb.specs.Scene.{lb_scene}
 use Rattle.slnf_flight.specs.declared.lanes.Lane.{Lane}
 use Rattle.slnf_flight.specs.Lanes.{lane_sizes}
 use Rattle.slnf_flight.specs.Actors.{eras_of}
@@ -27,7 +29,7 @@ use Rattle.slnf_flight.specs.declared.flights.AnyFlight.TheVariants.{Nat as NatF
 use Rattle.slnf_flight.specs.Flights.{nat_flight, fw_flight, lb_flight, Arrival}
 use Rattle.slnf_run.specs.Cases.{Case, case_scene}
 use Rattle.slnf_flight.specs.Begins.{begins_of, no_sweeps}
-use Rattle.slnf_nat.specs.Pools.{port_count, nat_of, nat_starts}
+use Rattle.slnf_nat.specs.Starts.{nat_starts}
 use Rattle.slnf_flight.specs.NatPlan.{nat_sweeps}
 use Rattle.slnf_flight.specs.FwPlan.{policy_with, fw_starts}
 use Rattle.slnf_flight.specs.LbPlan.{lb_starts}

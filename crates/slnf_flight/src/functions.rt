@@ -6,6 +6,7 @@ ghost use Rattle.slnf_flight.specs.Functions.{IsFunctionOf, step_as};
 use crate::flights::AnyFlight;
 use slnf_access::{Function, Key, Reply, Request, Start, Step};
 use slnf_base::{NoMemory, Packet, Pair, Row, Service, Verdict, know_pair};
+use slnf_box::Policy;
 use slnf_fw::{FwFlight, FwFunction};
 use slnf_lb::{LbFlight, LbFunction};
 use slnf_nat::{NatFlight, NatFunction};
@@ -159,8 +160,10 @@ impl AnyFunction {
         match &plan.function {
             FunctionPlan::Nat(pool) => Ok(AnyFunction::Nat(NatFunction { pool: *pool })),
             FunctionPlan::Firewall { inside, rules } => Ok(AnyFunction::Firewall(FwFunction {
-                inside: *inside,
-                rules: Row::from_vec(Vec::from_slice(alloc, rules.as_slice())?),
+                policy: Policy {
+                    inside: *inside,
+                    rules: Row::from_vec(Vec::from_slice(alloc, rules.as_slice())?),
+                },
             })),
             FunctionPlan::Balancer(service) => Ok(AnyFunction::Balancer(LbFunction {
                 service: copy_of(alloc, service)?,

@@ -19,9 +19,9 @@ use Rattle.slnf_run.specs.Items.{Item, is_item, is_of_items, Covers, is_other_on
 use Rattle.slnf_run.proofs.DecidedOnce.{is_of-itself}
 use Rattle.slnf_run.proofs.NextAccess.{own_split}
 use Rattle.slnf_run.proofs.Counting.{prefix_induction, count, count_less, count_by_items, items_cover, filter_and}
+use Rattle.slnf_box.specs.declared.policies.Policy.{Policy}
 use Rattle.slnf_fw.specs.declared.flights.FwState.{FwState}
 use Rattle.slnf_fw.specs.declared.flights.FwState.TheVariants.{Look, Add, Alter}
-use Rattle.slnf_fw.specs.Packets.{Policy}
 use Rattle.slnf_fw.specs.Flight.{Flying}
 use Rattle.slnf_fw.specs.Machine.{packet_key, goes_in, fw_machine}
 use Rattle.slnf_fw.specs.Scene.{fw_scene, BeginsFlights}

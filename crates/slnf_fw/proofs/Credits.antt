@@ -6,14 +6,14 @@ use Rattle.slnf_access.specs.declared.requests.Held.{Held}
 use Rattle.slnf_access.specs.declared.requests.Reply.TheVariants.{Done, Found, Absent}
 use Rattle.slnf_access.specs.Map.{reply_to, cell_after, is_done}
 use Rattle.slnf_access.specs.Machines.{Stand, Flies, Ends, stand_of_step}
-use Rattle.slnf_fw.specs.declared.flights.Tracked.{Tracked}
+use Rattle.slnf_box.specs.Choices.{choice_of}
+use Rattle.slnf_box.specs.declared.choices.Choice.{Choice}
+use Rattle.slnf_box.specs.declared.choices.Choice.TheVariants.{Refuses, Passes, Writes}
+use Rattle.slnf_box.specs.declared.choices.Tracked.{Tracked}
+use Rattle.slnf_box.specs.declared.policies.Policy.{Policy}
 use Rattle.slnf_fw.specs.declared.flights.FwState.{FwState}
 use Rattle.slnf_fw.specs.declared.flights.FwState.TheVariants.{Look, Add, Alter}
-use Rattle.slnf_fw.specs.declared.choices.Choice.{Choice}
-use Rattle.slnf_fw.specs.declared.choices.Choice.TheVariants.{Refuses, Passes, Writes}
 use Rattle.slnf_fw.specs.Conns.{tracked_of, tracked_number}
-use Rattle.slnf_fw.specs.Packets.{Policy}
-use Rattle.slnf_fw.specs.Choices.{choice_of}
 use Rattle.slnf_fw.specs.Flight.{Flying}
 use Rattle.slnf_fw.specs.Machine.{asks_in, step_of_choice, decide_found, decide, after_write, goes_in}
 

@@ -9,7 +9,7 @@ use Rattle.slnf_access.proofs.Laws.{cell_of-append, legal-back, legal-front}
 use Rattle.slnf_run.specs.Scene.{is_of, own_of}
 use Rattle.slnf_run.specs.Keeps.{HasPaths, IsNext}
 use Rattle.slnf_run.proofs.NextAccess.{is_next}
-use Rattle.slnf_fw.specs.Packets.{Policy}
+use Rattle.slnf_box.specs.declared.policies.Policy.{Policy}
 use Rattle.slnf_fw.specs.Flight.{Flying}
 use Rattle.slnf_fw.specs.Machine.{packet_key, fw_machine}
 use Rattle.slnf_fw.specs.Scene.{fw_scene, BeginsFlights}

@@ -16,10 +16,11 @@ use Rattle.slnf_keys.specs.declared.keys.ConnKey.{ConnKey}
 use Rattle.slnf_keys.specs.Keys.{conn_key_number, conn_key_of, IsConnKey}
 use Rattle.slnf_keys.proofs.Laws.{coded_same, conn_key-coded, conn_of-conn_number}
 use Rattle.slnf_run.proofs.Tables.{IsKeyed}
-use Rattle.slnf_fw.specs.declared.flights.Tracked.{Tracked}
+use Rattle.slnf_box.specs.FwBox.{is_same_conn}
+use Rattle.slnf_box.specs.Packets.{from_outside, conn_by_side, conn_of_packet}
+use Rattle.slnf_box.specs.declared.choices.Tracked.{Tracked}
+use Rattle.slnf_box.specs.declared.policies.Policy.{Policy}
 use Rattle.slnf_fw.specs.Conns.{conn_value, tracked_number, tracked_in, tracked_of}
-use Rattle.slnf_fw.specs.Packets.{Policy, from_outside, conn_by_side, conn_of_packet}
-use Rattle.slnf_fw.specs.Box.{is_same_conn}
 
 pair_ext : (a b : Pair) → a.addr ≡ b.addr → a.port ≡ b.port → a ≡ b
 pair_ext a b addr port =

@@ -9,9 +9,10 @@ use Rattle.slnf_run.specs.Boxes.{IsExplained}
 use Rattle.slnf_run.specs.Keeps.{HasPaths, IsNext, Keeps, Recalled}
 use Rattle.slnf_run.proofs.KeepingBoxes.{recalled_explained}
 use Rattle.slnf_run.proofs.Tables.{table_empty}
-use Rattle.slnf_fw.specs.Conns.{tracked_number}
-use Rattle.slnf_fw.specs.Packets.{Policy, conn_of_packet}
-use Rattle.slnf_fw.specs.Box.{Conns, fw_box, IsSameConns}
+use Rattle.slnf_box.specs.FwBox.{Conns, fw_box}
+use Rattle.slnf_box.specs.Packets.{conn_of_packet}
+use Rattle.slnf_box.specs.declared.policies.Policy.{Policy}
+use Rattle.slnf_fw.specs.Conns.{tracked_number, IsSameConns}
 use Rattle.slnf_fw.specs.Flight.{Flying}
 use Rattle.slnf_fw.specs.Machine.{asks_in, goes_in}
 use Rattle.slnf_fw.specs.Scene.{fw_scene, IsFirst, BeginsFlights}

@@ -22,12 +22,13 @@ use Rattle.slnf_keys.specs.Keys.{conn_key_number}
 use Rattle.slnf_keys.specs.Values.{conn_number, conn_of}
 use Rattle.slnf_run.specs.Scene.{own_of, stand_of}
 use Rattle.slnf_run.specs.Boxes.{content_after}
-use Rattle.slnf_fw.specs.declared.choices.Choice.TheVariants.{Refuses, Writes}
-use Rattle.slnf_fw.specs.Packets.{Policy, conn_of_packet}
-use Rattle.slnf_fw.specs.Choices.{choice_of}
+use Rattle.slnf_box.specs.Choices.{choice_of}
+use Rattle.slnf_box.specs.FwBox.{fw_box}
+use Rattle.slnf_box.specs.Packets.{conn_of_packet}
+use Rattle.slnf_box.specs.declared.choices.Choice.TheVariants.{Refuses, Writes}
+use Rattle.slnf_box.specs.declared.policies.Policy.{Policy}
 use Rattle.slnf_fw.specs.Flight.{Flying}
 use Rattle.slnf_fw.specs.Machine.{fw_begins, packet_key, fw_machine}
-use Rattle.slnf_fw.specs.Box.{fw_box}
 use Rattle.slnf_fw.specs.Scene.{fw_scene}
 
 -- the inside is 10.0.0.0/8, and one rule permits all TCP out

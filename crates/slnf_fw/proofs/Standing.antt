@@ -11,7 +11,7 @@ use Rattle.slnf_run.specs.Scene.{own_of, stand_of}
 use Rattle.slnf_run.specs.Keeps.{HasPaths, IsNext}
 use Rattle.slnf_run.proofs.DecidedOnce.{stand_of-own}
 use Rattle.slnf_run.proofs.NextAccess.{same_flight, is_next}
-use Rattle.slnf_fw.specs.Packets.{Policy}
+use Rattle.slnf_box.specs.declared.policies.Policy.{Policy}
 use Rattle.slnf_fw.specs.Flight.{Flying}
 use Rattle.slnf_fw.specs.Machine.{packet_key, asks_in, goes_in, fw_machine}
 use Rattle.slnf_fw.specs.Scene.{fw_scene, IsFirst, BeginsFlights}

@@ -5,8 +5,9 @@ use Rattle.slnf_base.specs.declared.packets.Reason.TheVariants.{Neither}
 use Rattle.slnf_base.specs.Ranges.{IsPair}
 use Rattle.slnf_access.specs.declared.functions.Start.{Start}
 use Rattle.slnf_access.specs.declared.functions.Start.TheVariants.{Go as StartGo, Over as StartOver}
+use Rattle.slnf_box.specs.Packets.{crosses}
+use Rattle.slnf_box.specs.declared.policies.Policy.{Policy}
 use Rattle.slnf_fw.specs.declared.flights.FwState.TheVariants.{Look}
-use Rattle.slnf_fw.specs.Packets.{Policy, crosses}
 use Rattle.slnf_fw.specs.Flight.{Flying}
 use Rattle.slnf_fw.specs.Machine.{fw_begins}
 use Rattle.slnf_fw.specs.Scene.{IsFirst}

@@ -8,14 +8,14 @@ use Rattle.slnf_access.specs.declared.requests.Reply.TheVariants.{Done, Found, A
 use Rattle.slnf_access.specs.Map.{key_of}
 use Rattle.slnf_access.specs.Machines.{Flies, stand_of_step, stand_after, IsPath}
 use Rattle.slnf_run.proofs.NextAccess.{same_flight, flight_induction}
-use Rattle.slnf_fw.specs.declared.flights.Tracked.{Tracked}
+use Rattle.slnf_box.specs.Choices.{choice_of}
+use Rattle.slnf_box.specs.declared.choices.Choice.{Choice}
+use Rattle.slnf_box.specs.declared.choices.Choice.TheVariants.{Refuses, Passes, Writes}
+use Rattle.slnf_box.specs.declared.choices.Tracked.{Tracked}
+use Rattle.slnf_box.specs.declared.policies.Policy.{Policy}
 use Rattle.slnf_fw.specs.declared.flights.FwState.{FwState}
 use Rattle.slnf_fw.specs.declared.flights.FwState.TheVariants.{Look, Add, Alter}
-use Rattle.slnf_fw.specs.declared.choices.Choice.{Choice}
-use Rattle.slnf_fw.specs.declared.choices.Choice.TheVariants.{Refuses, Passes, Writes}
 use Rattle.slnf_fw.specs.Conns.{tracked_of}
-use Rattle.slnf_fw.specs.Packets.{Policy}
-use Rattle.slnf_fw.specs.Choices.{choice_of}
 use Rattle.slnf_fw.specs.Flight.{Flying}
 use Rattle.slnf_fw.specs.Machine.{packet_key, asks_in, fw_asks, step_of_choice, decide_found, decide, after_write, goes_in, fw_machine}
 

@@ -17,15 +17,16 @@ use Rattle.slnf_keys.specs.Keys.{conn_key_number, IsConnKey}
 use Rattle.slnf_run.specs.Keeps.{IsKept, IsRecalled, Recalled}
 use Rattle.slnf_run.specs.Tables.{number_in}
 use Rattle.slnf_run.proofs.Tables.{table_stays, table_none, table_has, table_written}
-use Rattle.slnf_fw.specs.declared.flights.Tracked.{Tracked}
+use Rattle.slnf_box.specs.Choices.{choice_of}
+use Rattle.slnf_box.specs.FwBox.{Conns, is_same_conn, choice_verdict, choice_conns, fw_choice, fw_box}
+use Rattle.slnf_box.specs.Packets.{crosses, conn_of_packet}
+use Rattle.slnf_box.specs.declared.choices.Choice.{Choice}
+use Rattle.slnf_box.specs.declared.choices.Choice.TheVariants.{Refuses, Passes, Writes}
+use Rattle.slnf_box.specs.declared.choices.Tracked.{Tracked}
+use Rattle.slnf_box.specs.declared.policies.Policy.{Policy}
 use Rattle.slnf_fw.specs.declared.flights.FwState.{FwState}
 use Rattle.slnf_fw.specs.declared.flights.FwState.TheVariants.{Look, Add, Alter}
-use Rattle.slnf_fw.specs.declared.choices.Choice.{Choice}
-use Rattle.slnf_fw.specs.declared.choices.Choice.TheVariants.{Refuses, Passes, Writes}
-use Rattle.slnf_fw.specs.Conns.{tracked_number, tracked_of}
-use Rattle.slnf_fw.specs.Packets.{Policy, crosses, conn_of_packet}
-use Rattle.slnf_fw.specs.Choices.{choice_of}
-use Rattle.slnf_fw.specs.Box.{Conns, is_same_conn, choice_verdict, choice_conns, fw_choice, fw_box, IsSameConns}
+use Rattle.slnf_fw.specs.Conns.{tracked_number, tracked_of, IsSameConns}
 use Rattle.slnf_fw.specs.Flight.{Flying}
 use Rattle.slnf_fw.specs.Machine.{packet_key, fw_value, asks_in, step_of_choice, decide_found, decide, after_write, goes_in, fw_machine}
 use Rattle.slnf_fw.proofs.Keys.{conn_keyed, tracked_read}

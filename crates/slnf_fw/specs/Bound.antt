@@ -6,7 +6,7 @@ use Rattle.slnf_access.specs.Map.{key_of, is_done}
 use Rattle.slnf_access.specs.Machines.{Stand, Flies}
 use Rattle.slnf_run.specs.Scene.{is_of, own_of}
 use Rattle.slnf_run.specs.Items.{Item, is_of_items, is_other_on, items_of}
-use Rattle.slnf_fw.specs.Packets.{Policy}
+use Rattle.slnf_box.specs.declared.policies.Policy.{Policy}
 use Rattle.slnf_fw.specs.Flight.{Flying}
 use Rattle.slnf_fw.specs.Machine.{packet_key}
 

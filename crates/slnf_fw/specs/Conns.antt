@@ -1,10 +1,14 @@
--- The number of what is kept of a connection.
+-- What is kept of connections, in the store: the number of a value, and the connections of a map.
 use Rattle.std.specs.Prelude.{ℕ, Option}
 use Rattle.std.specs.Option.{option_map, option_and_then}
+use Rattle.slnf_access.specs.Map.{Cells}
+use Rattle.slnf_run.specs.Tables.{IsTable}
 use Rattle.slnf_fw_table.specs.States.{state_number, state_with, state_from_one, state_to_eight}
 use Rattle.slnf_keys.specs.declared.values.Conn.{Conn}
+use Rattle.slnf_keys.specs.Keys.{conn_key_number, IsConnKey}
 use Rattle.slnf_keys.specs.Values.{conn_number, conn_of}
-use Rattle.slnf_fw.specs.declared.flights.Tracked.{Tracked}
+use Rattle.slnf_box.specs.FwBox.{Conns}
+use Rattle.slnf_box.specs.declared.choices.Tracked.{Tracked}
 
 -- the value that the store has of a connection
 abbrev pub conn_value : Tracked → Conn
@@ -26,3 +30,7 @@ tracked_in conn = option_map (λ state. record { by_outside = conn.by_outside; s
 -- what is kept where the store has the value with this number; an ill one is no number of a connection
 abbrev pub tracked_of : ℕ → Option Tracked
 tracked_of number = option_and_then tracked_in (conn_of number)
+
+-- the box has the connections of the store's map
+abbrev pub IsSameConns : Conns → Cells → Type 0
+IsSameConns = IsTable conn_key_number IsConnKey tracked_number

@@ -1,10 +1,6 @@
-pub mod Packets
 pub mod Conns
-pub mod Choices
-pub mod Box
 pub mod Flight
 pub mod Machine
-pub mod FunctionPolicy
 pub mod Refuses
 pub mod Scene
 pub mod Bound

@@ -16,14 +16,15 @@ use Rattle.slnf_access.specs.declared.functions.Start.TheVariants.{Go as StartGo
 use Rattle.slnf_access.specs.declared.functions.Step.{Step}
 use Rattle.slnf_access.specs.declared.functions.Step.TheVariants.{Go as StepGo, Over as StepOver}
 use Rattle.slnf_keys.specs.Keys.{conn_key_number}
-use Rattle.slnf_fw.specs.declared.flights.Tracked.{Tracked}
+use Rattle.slnf_box.specs.Choices.{choice_of}
+use Rattle.slnf_box.specs.Packets.{crosses, conn_of_packet}
+use Rattle.slnf_box.specs.declared.choices.Choice.{Choice}
+use Rattle.slnf_box.specs.declared.choices.Choice.TheVariants.{Refuses, Passes, Writes}
+use Rattle.slnf_box.specs.declared.choices.Tracked.{Tracked}
+use Rattle.slnf_box.specs.declared.policies.Policy.{Policy}
 use Rattle.slnf_fw.specs.declared.flights.FwState.{FwState}
 use Rattle.slnf_fw.specs.declared.flights.FwState.TheVariants.{Look, Add, Alter}
-use Rattle.slnf_fw.specs.declared.choices.Choice.{Choice}
-use Rattle.slnf_fw.specs.declared.choices.Choice.TheVariants.{Refuses, Passes, Writes}
 use Rattle.slnf_fw.specs.Conns.{tracked_number, tracked_of}
-use Rattle.slnf_fw.specs.Packets.{Policy, crosses, conn_of_packet}
-use Rattle.slnf_fw.specs.Choices.{choice_of}
 use Rattle.slnf_fw.specs.Flight.{Flying}
 
 -- how a packet begins

@@ -4,7 +4,8 @@ use Rattle.slnf_base.specs.declared.packets.Packet.{Packet}
 use Rattle.slnf_base.specs.declared.packets.Reason.{Reason}
 use Rattle.slnf_base.specs.declared.packets.Reason.TheVariants.{Neither}
 use Rattle.slnf_access.specs.declared.functions.Start.TheVariants.{Go as StartGo, Over as StartOver}
-use Rattle.slnf_fw.specs.Packets.{Policy, crosses}
+use Rattle.slnf_box.specs.Packets.{crosses}
+use Rattle.slnf_box.specs.declared.policies.Policy.{Policy}
 use Rattle.slnf_fw.specs.Flight.{Flying}
 use Rattle.slnf_fw.specs.Machine.{fw_begins}
 

@@ -4,8 +4,9 @@ use Rattle.slnf_base.specs.declared.packets.Packet.{Packet}
 use Rattle.slnf_base.specs.Ranges.{IsPair}
 use Rattle.slnf_access.specs.Machines.{Stand, Flies}
 use Rattle.slnf_run.specs.Scene.{Scene}
+use Rattle.slnf_box.specs.Packets.{crosses}
+use Rattle.slnf_box.specs.declared.policies.Policy.{Policy}
 use Rattle.slnf_fw.specs.declared.flights.FwState.TheVariants.{Look}
-use Rattle.slnf_fw.specs.Packets.{Policy, crosses}
 use Rattle.slnf_fw.specs.Flight.{Flying}
 use Rattle.slnf_fw.specs.Machine.{fw_machine}
 

@@ -2,14 +2,13 @@
 //! accesses.
 #![tactic(auto)]
 
-mod choices;
 mod flights;
 mod functions;
 #[cfg(test)]
 mod tests;
 mod theorems;
+mod values;
 
-pub use choices::Choice;
-pub use flights::{FwFlight, FwState, Tracked};
+pub use flights::{FwFlight, FwState};
 pub use functions::FwFunction;
 pub use theorems::{failed_write_shows_another, firewall_bound, firewall_is_one_box};

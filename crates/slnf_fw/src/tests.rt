@@ -1,6 +1,7 @@
 use super::*;
 use slnf_access::{Entry, Function, Key, ListStore, Reply, Request, Start, Step, Value};
 use slnf_base::{Change, NoMemory, Packet, Pair, Prefix, Proto, Reason, Row, Verdict};
+use slnf_box::Policy;
 use slnf_fw_table::Rule;
 use std::alloc::Global;
 use std::test::Fail;
@@ -50,13 +51,14 @@ fn firewall(alloc: Global) -> Result<FwFunction, NoMemory> {
         low: 0,
         high: 65535,
     };
-    Ok(FwFunction {
+    let policy = Policy {
         inside: Prefix {
             addr: 0x0a00_0000,
             bits: 8,
         },
         rules: Row::from_vec(vec![in alloc; tcp_out]?),
-    })
+    };
+    Ok(FwFunction { policy })
 }
 
 // One more access of a packet under way.

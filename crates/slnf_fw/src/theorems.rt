@@ -9,11 +9,12 @@ ghost use Rattle.slnf_access.specs.Machines.{Stand};
 ghost use Rattle.slnf_access.specs.Order.{RisesOnKeys};
 ghost use Rattle.slnf_run.specs.Boxes.{IsExplained};
 ghost use Rattle.slnf_run.specs.Keeps.{HasPaths};
-ghost use Rattle.slnf_fw.specs.Packets.{Policy};
+ghost use Rattle.slnf_box.specs.FwBox.{fw_box};
+ghost use Rattle.slnf_box.specs.declared.policies.Policy.{Policy};
 ghost use Rattle.slnf_fw.specs.Flight.{Flying};
 ghost use Rattle.slnf_fw.specs.Machine.{fw_begins};
 ghost use Rattle.slnf_fw.specs.Scene.{fw_scene, IsFirst, BeginsFlights};
-ghost use Rattle.slnf_fw.specs.Box.{fw_box, IsSameConns};
+ghost use Rattle.slnf_fw.specs.Conns.{IsSameConns};
 ghost use Rattle.slnf_fw.specs.Bound.{IsBounded, FailuresShow};
 
 /// One ordinary firewall explains each legal list of the firewall's paths, whole or not, in which stamps rise on each

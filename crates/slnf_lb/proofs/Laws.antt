@@ -5,11 +5,12 @@ use Rattle.slnf_base.specs.declared.packets.Packet.{Packet}
 use Rattle.slnf_access.specs.declared.requests.Held.{Held}
 use Rattle.slnf_access.specs.declared.requests.Entry.{Entry}
 use Rattle.slnf_access.specs.Map.{cell_step, empty}
+use Rattle.slnf_box.specs.LbBox.{no_pins}
 use Rattle.slnf_lb.specs.declared.flights.LbState.{LbState}
 use Rattle.slnf_lb.specs.declared.flights.LbState.TheVariants.{Forward, Put, Return}
 use Rattle.slnf_lb.specs.Flight.{Flying}
 use Rattle.slnf_lb.specs.Machine.{asks_in, lb_asks}
-use Rattle.slnf_lb.specs.Box.{no_pins, IsSameMap}
+use Rattle.slnf_lb.specs.StoredPins.{IsSameMap}
 use Rattle.slnf_lb.proofs.Same.{read_step, put_step}
 pub use Rattle.slnf_lb.proofs.Steps.{lb_kept}
 

@@ -7,11 +7,12 @@ use Rattle.slnf_access.specs.Machines.{Stand, Flies, Ends, stand_of_step, decide
 use Rattle.slnf_run.specs.Boxes.{IsExplained}
 use Rattle.slnf_run.specs.Keeps.{HasPaths, IsKept, Keeps, Anything}
 use Rattle.slnf_run.proofs.KeepingBoxes.{kept_explained}
+use Rattle.slnf_box.specs.LbBox.{Pins, lb_box}
 use Rattle.slnf_lb.specs.Flight.{Flying}
 use Rattle.slnf_lb.specs.Machine.{lb_goes, lb_machine}
-use Rattle.slnf_lb.specs.Box.{Pins, IsSameMap}
+use Rattle.slnf_lb.specs.StoredPins.{IsSameMap}
 use Rattle.slnf_lb.specs.Kept.{IsKeptUp}
-use Rattle.slnf_lb.specs.Scene.{lb_scene, lb_box, BeginAsFlights}
+use Rattle.slnf_lb.specs.Scene.{lb_scene, BeginAsFlights}
 use Rattle.slnf_lb.proofs.Laws.{lb_kept, same-empty}
 
 -- what a packet's step keeps is what the box owes at it

@@ -15,7 +15,7 @@ use Rattle.slnf_run.proofs.NextAccess.{is_next}
 use Rattle.slnf_run.proofs.DecidedOnce.{take_further}
 use Rattle.slnf_keys.specs.Keys.{pin_key_number}
 use Rattle.slnf_lb.specs.Flight.{Flying}
-use Rattle.slnf_lb.specs.Box.{backend_in}
+use Rattle.slnf_lb.specs.StoredPins.{backend_in}
 use Rattle.slnf_lb.specs.Scene.{lb_scene}
 use Rattle.slnf_lb.specs.Pins.{PinsStay}
 use Rattle.slnf_lb.proofs.Laws.{held_stays}

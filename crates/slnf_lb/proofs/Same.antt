@@ -21,8 +21,9 @@ use Rattle.slnf_keys.specs.declared.keys.PinKey.{PinKey}
 use Rattle.slnf_keys.specs.declared.values.Pin.{Pin}
 use Rattle.slnf_keys.specs.Keys.{pin_key_number}
 use Rattle.slnf_keys.proofs.Laws.{pin_key_number-same, pin_of-pin_number}
+use Rattle.slnf_box.specs.LbBox.{Pins, with_pin}
 use Rattle.slnf_lb.specs.Machine.{pin_key, pin_value}
-use Rattle.slnf_lb.specs.Box.{Pins, with_pin, backend_in, pin_at, IsSameMap}
+use Rattle.slnf_lb.specs.StoredPins.{backend_in, pin_at, IsSameMap}
 
 -- the number of a client's key
 abbrev key_number : Proto → Pair → ℕ

@@ -24,11 +24,13 @@ use Rattle.slnf_base.specs.Ranges.{IsPair}
 use Rattle.slnf_keys.specs.declared.values.Pin.{Pin}
 use Rattle.slnf_keys.specs.Keys.{pin_key_number}
 use Rattle.slnf_keys.specs.Values.{pin_of}
+use Rattle.slnf_box.specs.LbBox.{Pins, with_pin, backend_or, return_verdict, lb_verdict, lb_next}
+use Rattle.slnf_box.specs.Services.{is_forward, is_return}
 use Rattle.slnf_lb.specs.declared.flights.LbState.{LbState}
 use Rattle.slnf_lb.specs.declared.flights.LbState.TheVariants.{Forward, Put, Return}
 use Rattle.slnf_lb.specs.Flight.{Flying}
-use Rattle.slnf_lb.specs.Machine.{is_forward, is_return, pin_key, pin_value, asks_in, lb_asks, goes_in, lb_goes, forwarded, returned, lb_machine}
-use Rattle.slnf_lb.specs.Box.{Pins, with_pin, backend_or, return_verdict, lb_verdict, lb_next, backend_in, pin_at, IsSameMap}
+use Rattle.slnf_lb.specs.Machine.{pin_key, pin_value, asks_in, lb_asks, goes_in, lb_goes, forwarded, returned, lb_machine}
+use Rattle.slnf_lb.specs.StoredPins.{backend_in, pin_at, IsSameMap}
 use Rattle.slnf_lb.specs.Kept.{HasDirection, IsFlight, IsKeptUp}
 use Rattle.slnf_lb.proofs.Same.{same-read, same-again, same-equal, same-put, put_leaves}
 

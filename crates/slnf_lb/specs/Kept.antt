@@ -6,11 +6,12 @@ use Rattle.slnf_base.specs.declared.plans.Service.{Service}
 use Rattle.slnf_access.specs.Map.{Cells}
 use Rattle.slnf_access.specs.Machines.{Stand, Flies, Ends}
 use Rattle.slnf_base.specs.Ranges.{IsPair}
+use Rattle.slnf_box.specs.LbBox.{Pins, lb_verdict, lb_next}
+use Rattle.slnf_box.specs.Services.{is_forward, is_return}
 use Rattle.slnf_lb.specs.declared.flights.LbState.{LbState}
 use Rattle.slnf_lb.specs.declared.flights.LbState.TheVariants.{Forward, Put, Return}
 use Rattle.slnf_lb.specs.Flight.{Flying}
-use Rattle.slnf_lb.specs.Machine.{is_forward, is_return}
-use Rattle.slnf_lb.specs.Box.{Pins, lb_verdict, lb_next, IsSameMap}
+use Rattle.slnf_lb.specs.StoredPins.{IsSameMap}
 
 -- the packet has the direction of the state
 abbrev pub HasDirection : Service → Packet → LbState → Type 0

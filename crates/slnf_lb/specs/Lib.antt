@@ -1,6 +1,6 @@
 pub mod Flight
 pub mod Machine
-pub mod Box
+pub mod StoredPins
 pub mod Refuses
 pub mod Kept
 pub mod Scene

@@ -1,6 +1,5 @@
 -- The balancer's machine.
-use Rattle.std.specs.Prelude.{ℕ, ◌+◌, ◌%◌, Bool, ◌&&◌, if◌then◌else◌, Option, Some, None, List, length, slice_index_or}
-use Rattle.std.specs.List.{list_any}
+use Rattle.std.specs.Prelude.{ℕ, ◌+◌, ◌%◌, if◌then◌else◌, Option, Some, None, List, length, slice_index_or}
 use Rattle.slnf_base.specs.declared.addresses.Pair.{Pair}
 use Rattle.slnf_base.specs.declared.packets.Proto.{Proto}
 use Rattle.slnf_base.specs.declared.packets.Packet.{Packet}
@@ -8,7 +7,7 @@ use Rattle.slnf_base.specs.declared.packets.Change.TheVariants.{Source, Dest}
 use Rattle.slnf_base.specs.declared.packets.Reason.TheVariants.{Neither, NotPinned}
 use Rattle.slnf_base.specs.declared.packets.Verdict.TheVariants.{Emit, Dropped}
 use Rattle.slnf_base.specs.declared.plans.Service.{Service}
-use Rattle.slnf_base.specs.Equal.{is_same_pair, is_same_proto}
+use Rattle.slnf_base.specs.Equal.{is_same_pair}
 use Rattle.slnf_access.specs.declared.requests.Key.{Key}
 use Rattle.slnf_access.specs.declared.requests.Value.{Value}
 use Rattle.slnf_access.specs.declared.requests.Request.{Request}
@@ -23,18 +22,10 @@ use Rattle.slnf_access.specs.declared.functions.Step.TheVariants.{Go as StepGo, 
 use Rattle.slnf_keys.specs.declared.values.Pin.{Pin}
 use Rattle.slnf_keys.specs.Keys.{pin_key_number}
 use Rattle.slnf_keys.specs.Values.{pin_number, pin_of}
+use Rattle.slnf_box.specs.Services.{is_forward, is_return}
 use Rattle.slnf_lb.specs.declared.flights.LbState.{LbState}
 use Rattle.slnf_lb.specs.declared.flights.LbState.TheVariants.{Forward, Put, Return}
 use Rattle.slnf_lb.specs.Flight.{Flying}
-
--- the packet goes to the front
-abbrev pub is_forward : Service → Packet → Bool
-is_forward service packet = is_same_proto packet.proto service.proto && is_same_pair packet.dest service.front
-
--- the packet comes from a backend, where it doesn't go to the front
-abbrev pub is_return : Service → Packet → Bool
-is_return service packet =
-    is_same_proto packet.proto service.proto && list_any (λ backend. is_same_pair packet.source backend) service.backends
 
 -- the backend that is chosen: the active ones take turns, by the incarnation and the packet's number
 abbrev pub choice_of : List Pair → ℕ → ℕ → Pair

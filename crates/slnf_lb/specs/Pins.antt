@@ -4,7 +4,7 @@ use Rattle.slnf_base.specs.declared.addresses.Pair.{Pair}
 use Rattle.slnf_base.specs.declared.packets.Proto.{Proto}
 use Rattle.slnf_access.specs.declared.requests.Entry.{Entry}
 use Rattle.slnf_access.specs.Map.{empty, map_after}
-use Rattle.slnf_lb.specs.Box.{pin_at}
+use Rattle.slnf_lb.specs.StoredPins.{pin_at}
 
 -- a client that has a backend after some prefix has it after every longer one
 pub record PinsStay (j : List Entry) : Type 0 where

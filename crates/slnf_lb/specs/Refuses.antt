@@ -6,8 +6,9 @@ use Rattle.slnf_base.specs.declared.packets.Reason.{Reason}
 use Rattle.slnf_base.specs.declared.packets.Reason.TheVariants.{Neither}
 use Rattle.slnf_base.specs.declared.plans.Service.{Service}
 use Rattle.slnf_access.specs.declared.functions.Start.TheVariants.{Go as StartGo, Over as StartOver}
+use Rattle.slnf_box.specs.Services.{is_forward, is_return}
 use Rattle.slnf_lb.specs.Flight.{Flying}
-use Rattle.slnf_lb.specs.Machine.{is_forward, is_return, lb_begins}
+use Rattle.slnf_lb.specs.Machine.{lb_begins}
 
 -- of two flights and a refusal, the refusal alone refuses
 refused : (first second : Bool) (a b : Flying) (reason : Reason) → (if first then StartGo a else (if second then StartGo b else StartOver Neither)) ≡ StartOver reason → reason ≡ Neither

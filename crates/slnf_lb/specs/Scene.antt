@@ -1,20 +1,12 @@
--- The balancer's scene and box: a packet's place is its deciding entry, and the box sees the packet with its choice.
+-- The balancer's scene: a packet's place is its deciding entry, and the box sees the packet with its choice.
 use Rattle.std.specs.Prelude.{◌≡◌, ℕ, []}
-use Rattle.slnf_base.specs.declared.addresses.Pair.{Pair}
-use Rattle.slnf_base.specs.declared.packets.Packet.{Packet}
 use Rattle.slnf_base.specs.declared.plans.Service.{Service}
 use Rattle.slnf_access.specs.Machines.{Stand, Flies}
 use Rattle.slnf_run.specs.Scene.{Scene}
-use Rattle.slnf_run.specs.Boxes.{Box}
+use Rattle.slnf_box.specs.LbBox.{LbArrival}
 use Rattle.slnf_lb.specs.Flight.{Flying}
 use Rattle.slnf_lb.specs.Machine.{lb_machine}
-use Rattle.slnf_lb.specs.Box.{Pins, no_pins, lb_verdict, lb_next}
 use Rattle.slnf_lb.specs.Kept.{IsFlight}
-
--- What the box sees: a packet, and the backend that is chosen for it.
-pub record LbArrival : Type 0 where
-  pub packet : Packet
-  pub choice : Pair
 
 -- the scene where items begin so, by incarnation and number
 abbrev pub lb_scene : Service → (ℕ → ℕ → Stand Flying) → Scene Flying LbArrival
@@ -24,14 +16,6 @@ lb_scene service begins = record {
   place = λ es number first verdict. number;
   arrival = λ first e. record { packet = first.packet; choice = first.choice };
   removals = λ e. [];
-}
-
--- the ordinary balancer
-abbrev pub lb_box : Service → Box LbArrival Pins
-lb_box service = record {
-  empty = no_pins;
-  verdict = λ pins arrival. lb_verdict service pins arrival.packet arrival.choice;
-  next = λ pins arrival. lb_next service pins arrival.packet arrival.choice;
 }
 
 -- each item that begins with an access begins as one of the service's flights

@@ -1,11 +1,11 @@
-ghost use Rattle.std.specs.Prelude.{◌≡◌, ◌<◌, ◌≤◌, ◌&&◌, length, IsTrue, slice_index_or};
-ghost use Rattle.std.specs.List.{list_any, list_all};
-ghost use Rattle.slnf_base.specs.Equal.{is_same_pair, is_same_proto};
+ghost use Rattle.std.specs.Prelude.{◌≡◌, ◌<◌, length, IsTrue};
+ghost use Rattle.std.specs.List.{list_all};
 ghost use Rattle.slnf_base.specs.Ranges.{is_pair};
 
 use crate::flights::{LbFlight, LbState};
 use slnf_access::{Function, Key, Reply, Request, Start, Step, Value};
 use slnf_base::{Change, Packet, Pair, Proto, Reason, Row, Service, Verdict};
+use slnf_box::{is_forward, is_return};
 use slnf_keys::{Pin, PinKey};
 
 /// A load balancer: packets to the service's front go to the backend that their client is pinned to, and a client without
@@ -18,29 +18,8 @@ pub struct LbFunction {
     pub ghost pairs: { IsTrue (list_all is_pair active) },
 }
 
-ghost use Rattle.slnf_lb.specs.Machine.{is_forward, is_return, choice_of, forwarded, returned, pin_key, pin_value};
+ghost use Rattle.slnf_lb.specs.Machine.{choice_of, forwarded, returned, pin_key, pin_value};
 ghost use Rattle.slnf_keys.specs.Values.{pin_of};
-
-/// Whether the pair is one of these.
-fn is_among(pair: Pair, pairs: &[Pair]) -> bool
-    ensures { result ≡ list_any (λ other. is_same_pair pair other) pairs.now }
-{
-    pairs.iter().any(|other| pair == *other)
-}
-
-/// Whether the packet goes to the front.
-pub fn is_forward(service: &Service, packet: &Packet) -> bool
-    ensures { result ≡ is_forward service.now packet.now }
-{
-    packet.proto == service.proto && packet.dest == service.front
-}
-
-/// Whether the packet comes from a backend.
-pub fn is_return(service: &Service, packet: &Packet) -> bool
-    ensures { result ≡ is_return service.now packet.now }
-{
-    packet.proto == service.proto && is_among(packet.source, service.backends.as_slice())
-}
 
 /// The active backend whose turn it is.
 fn choice_of(active: &[Pair], incarnation: u64, number: u64) -> Pair

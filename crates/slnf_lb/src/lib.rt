@@ -6,7 +6,7 @@ mod functions;
 mod theorems;
 
 pub use flights::{LbFlight, LbState};
-pub use functions::{LbFunction, is_forward, is_return};
+pub use functions::LbFunction;
 pub use theorems::paths_are_one_balancer;
 
 #[cfg(test)]

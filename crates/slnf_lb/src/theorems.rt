@@ -6,9 +6,10 @@ ghost use Rattle.slnf_access.specs.Map.{IsLegal};
 ghost use Rattle.slnf_access.specs.Machines.{Stand};
 ghost use Rattle.slnf_run.specs.Boxes.{IsExplained};
 ghost use Rattle.slnf_run.specs.Keeps.{HasPaths};
+ghost use Rattle.slnf_box.specs.LbBox.{lb_box};
 ghost use Rattle.slnf_lb.specs.Flight.{Flying};
-ghost use Rattle.slnf_lb.specs.Box.{IsSameMap};
-ghost use Rattle.slnf_lb.specs.Scene.{lb_scene, lb_box, BeginAsFlights};
+ghost use Rattle.slnf_lb.specs.StoredPins.{IsSameMap};
+ghost use Rattle.slnf_lb.specs.Scene.{lb_scene, BeginAsFlights};
 ghost use Rattle.slnf_lb.specs.Pins.{PinsStay};
 
 /// One ordinary balancer explains each legal list of entries that is made of a balancer's paths, whole or not, however its

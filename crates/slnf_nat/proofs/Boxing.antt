@@ -18,9 +18,11 @@ use Rattle.slnf_access.specs.Map.{Cells}
 use Rattle.slnf_access.specs.Machines.{decided_at}
 use Rattle.slnf_base.specs.Ranges.{IsPair}
 use Rattle.slnf_run.specs.Visits.{newly}
+use Rattle.slnf_box.specs.Nat.{Nat}
+use Rattle.slnf_box.specs.NatBox.{Flow, pair_of, owner, nat_verdict, nat_next}
 use Rattle.slnf_nat.specs.Flights.{NatFlight}
-use Rattle.slnf_nat.specs.Machine.{Nat, flow_key, nat_goes, nat_decided, nat_machine}
-use Rattle.slnf_nat.specs.NatBox.{Flow, pair_of, owner, nat_verdict, nat_next, flow_in, flow_at}
+use Rattle.slnf_nat.specs.Machine.{flow_key, nat_goes, nat_decided, nat_machine}
+use Rattle.slnf_nat.specs.StoredFlows.{flow_in, flow_at}
 use Rattle.slnf_nat.specs.NatScene.{is_no_flow, is_in, packet_of, put_on}
 use Rattle.slnf_nat.specs.Kept.{IsUnnamed, IsBoxed}
 use Rattle.slnf_nat.proofs.Carries.{FlowsStay}

@@ -12,8 +12,9 @@ use Rattle.slnf_keys.specs.declared.values.Claim.{Claim}
 use Rattle.slnf_base.specs.Ranges.{IsPair}
 use Rattle.slnf_keys.specs.Values.{flow_to_of, claim_of}
 use Rattle.slnf_run.specs.Scene.{is_of}
-use Rattle.slnf_nat.specs.Machine.{Nat, flow_key, port_key}
-use Rattle.slnf_nat.specs.NatBox.{flow_in, flow_at, outside_of}
+use Rattle.slnf_box.specs.Nat.{Nat}
+use Rattle.slnf_nat.specs.Machine.{flow_key, port_key}
+use Rattle.slnf_nat.specs.StoredFlows.{flow_in, flow_at, outside_of}
 use Rattle.slnf_nat.specs.Kept.{IsStampOn, IsStampBy, IsCurrent, IsClaimed, IsUnnamed, IsOwned, IsOldClaim, HasSeen, HasStamps, claim_in, IsLive}
 use Rattle.slnf_nat.proofs.Lists.{some_entry-each}
 use Rattle.slnf_nat.proofs.Keys.{flow_key_same, port_key_same, flow_port}

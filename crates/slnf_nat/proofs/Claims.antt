@@ -11,8 +11,9 @@ use Rattle.slnf_access.specs.Machines.{Stand, Flies, Ends}
 use Rattle.slnf_access.proofs.Laws.{cell_of-append}
 use Rattle.slnf_keys.specs.declared.values.Claim.{Claim}
 use Rattle.slnf_run.proofs.Splits.{IsSplit, split_at}
+use Rattle.slnf_box.specs.Nat.{Nat}
 use Rattle.slnf_nat.specs.Flights.{Look, Try, Confirm, Release, Last, NatFlight, Out, In, Sweep, first_of}
-use Rattle.slnf_nat.specs.Machine.{Nat, port_key, nat_goes}
+use Rattle.slnf_nat.specs.Machine.{port_key, nat_goes}
 use Rattle.slnf_nat.specs.Laws.{HasSource, HaveSources}
 use Rattle.slnf_nat.specs.Leaks.{Hangs}
 use Rattle.slnf_nat.specs.Given.{IsNat, IsNatList}

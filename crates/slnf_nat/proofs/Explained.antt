@@ -27,9 +27,11 @@ use Rattle.slnf_run.proofs.Splits.{IsSplit, split_at, slice_get-split}
 use Rattle.slnf_run.proofs.DecidedOnce.{IsDecision, stand_of-append, take_further, decided_behind}
 use Rattle.slnf_run.proofs.OneVisit.{IsVisit, is_visit, own_visit, one_visit}
 use Rattle.slnf_run.proofs.Explaining as explaining
+use Rattle.slnf_box.specs.Nat.{Nat}
+use Rattle.slnf_box.specs.NatBox.{Flow, NatArrival, pair_of, owner, nat_verdict, nat_next, nat_box}
 use Rattle.slnf_nat.specs.Flights.{LookPort, LookFlow, NatFlight, Out, In, Sweep, first_of}
-use Rattle.slnf_nat.specs.Machine.{Nat, flow_key, nat_asks, nat_goes, nat_decided, nat_machine, claimed, entered}
-use Rattle.slnf_nat.specs.NatBox.{Flow, NatArrival, pair_of, owner, nat_verdict, nat_next, nat_box, flow_in, flow_at, outside_of, IsSameFlows}
+use Rattle.slnf_nat.specs.Machine.{flow_key, nat_asks, nat_goes, nat_decided, nat_machine, claimed, entered}
+use Rattle.slnf_nat.specs.StoredFlows.{flow_in, flow_at, outside_of, IsSameFlows}
 use Rattle.slnf_nat.specs.NatScene.{is_no_flow, is_in, put_on, nat_arrival, nat_scene}
 use Rattle.slnf_nat.specs.Kept.{Holds, IsBoxed, IsNatKept}
 use Rattle.slnf_nat.specs.Given.{IsNat, IsRanged, IsNatList}

@@ -10,8 +10,9 @@ use Rattle.slnf_access.specs.declared.requests.Entry.{Entry}
 use Rattle.slnf_access.specs.Machines.{Stand}
 use Rattle.slnf_run.specs.Scene.{is_of, own_of}
 use Rattle.slnf_run.specs.Steady.{IsSteady, HasOwnPlaces}
+use Rattle.slnf_box.specs.Nat.{Nat}
 use Rattle.slnf_nat.specs.Flights.{Look, Try, Confirm, Release, Last, LookPort, NatFlight, Out, In, Sweep, first_of}
-use Rattle.slnf_nat.specs.Machine.{Nat, nat_machine}
+use Rattle.slnf_nat.specs.Machine.{nat_machine}
 use Rattle.slnf_nat.specs.NatScene.{is_no_flow, is_in, packet_of, nat_scene}
 use Rattle.slnf_nat.proofs.Flying.{own_parts}
 use Rattle.slnf_run.specs.Looks.{first_of as first_own, first_of_own as first_with}

@@ -18,8 +18,9 @@ use Rattle.slnf_keys.specs.declared.values.Claim.{Claim}
 use Rattle.slnf_base.specs.Ranges.{IsPair}
 use Rattle.slnf_keys.specs.Values.{flow_to_of, claim_of}
 use Rattle.slnf_run.specs.Scene.{is_of}
+use Rattle.slnf_box.specs.Nat.{Nat}
 use Rattle.slnf_nat.specs.Flights.{OutState, Look, Try, Confirm, Release, Last, InState, LookPort, LookFlow, SweepState, SweepPort, SweepFlow, Remove, NatFlight, Out, In, Sweep, first_of}
-use Rattle.slnf_nat.specs.Machine.{Nat, port_key, tried, nat_asks, nat_goes, looked, released, claimed, entered, swept, names}
+use Rattle.slnf_nat.specs.Machine.{port_key, tried, nat_asks, nat_goes, looked, released, claimed, entered, swept, names}
 use Rattle.slnf_nat.specs.Kept.{IsStampOn, IsStampBy, IsCurrent, IsOwned, HasSeen, HoldsOut, HoldsSweep, Holds, HasStamps, IsLive, IsFlying}
 use Rattle.slnf_nat.specs.Given.{IsNat, IsRanged}
 use Rattle.slnf_nat.proofs.Lists.{some_entry-more, some_entry-last, some_entry-parts, some_entry-each, each-parts}

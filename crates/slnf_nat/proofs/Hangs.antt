@@ -19,9 +19,10 @@ use Rattle.slnf_keys.specs.Values.{claim_number, claim_of, flow_to_of}
 use Rattle.slnf_keys.proofs.Laws.{claim-coded, flow_to-coded}
 use Rattle.slnf_run.specs.Scene.{is_of, stand_of}
 use Rattle.slnf_run.proofs.Splits.{IsSplit, split_at}
+use Rattle.slnf_box.specs.Nat.{Nat}
 use Rattle.slnf_nat.specs.Flights.{Look, Try, Confirm, Release, Last, LookPort, LookFlow, SweepPort, SweepFlow, Remove, NatFlight, Out, In, Sweep}
-use Rattle.slnf_nat.specs.Machine.{Nat, flow_key, port_key, tried, nat_asks, nat_goes, released}
-use Rattle.slnf_nat.specs.NatBox.{flow_in, flow_at, outside_of}
+use Rattle.slnf_nat.specs.Machine.{flow_key, port_key, tried, nat_asks, nat_goes, released}
+use Rattle.slnf_nat.specs.StoredFlows.{flow_in, flow_at, outside_of}
 use Rattle.slnf_nat.specs.NatScene.{nat_scene}
 use Rattle.slnf_nat.specs.Kept.{IsLive}
 use Rattle.slnf_nat.specs.Given.{IsNat, IsRanged, IsNatList}

@@ -14,9 +14,10 @@ use Rattle.slnf_base.specs.Ranges.{IsPair}
 use Rattle.slnf_keys.specs.Values.{claim_of}
 use Rattle.slnf_keys.proofs.Laws.{claim-coded}
 use Rattle.slnf_run.specs.Scene.{own_of, stand_of}
+use Rattle.slnf_box.specs.Nat.{Nat}
 use Rattle.slnf_nat.specs.Flights.{Look, Try, Confirm, Release, Last, SweepState, SweepPort, SweepFlow, Remove, NatFlight, Out, In, Sweep, first_of}
-use Rattle.slnf_nat.specs.Machine.{Nat, flow_key, port_key, nat_machine}
-use Rattle.slnf_nat.specs.NatBox.{flow_at}
+use Rattle.slnf_nat.specs.Machine.{flow_key, port_key, nat_machine}
+use Rattle.slnf_nat.specs.StoredFlows.{flow_at}
 use Rattle.slnf_nat.specs.NatScene.{nat_scene}
 use Rattle.slnf_nat.specs.Kept.{SomeEntry, HoldsSweep, IsLive, claim_in}
 use Rattle.slnf_nat.specs.Given.{IsNat, IsNatList}

@@ -13,9 +13,10 @@ use Rattle.slnf_run.specs.Parts.{part_of, first_key_of, is_among, with_key, batc
 use Rattle.slnf_run.specs.Images.{stand_as, IsImage, IsSceneImage}
 use Rattle.slnf_run.proofs.Images.{path_as}
 use Rattle.slnf_run.proofs.DecidedOnce.{stand_of-append}
+use Rattle.slnf_box.specs.Nat.{Nat}
+use Rattle.slnf_box.specs.NatBox.{NatArrival}
 use Rattle.slnf_nat.specs.Flights.{NatFlight, first_of}
-use Rattle.slnf_nat.specs.Machine.{Nat, nat_machine}
-use Rattle.slnf_nat.specs.NatBox.{NatArrival}
+use Rattle.slnf_nat.specs.Machine.{nat_machine}
 use Rattle.slnf_nat.specs.NatScene.{nat_scene}
 use Rattle.slnf_nat.specs.Given.{IsNat, IsRanged, IsNatList}
 use Rattle.slnf_nat.specs.Leaks.{HasSwept, IsSweepOf, IsThrough, IsTidy}

@@ -13,9 +13,11 @@ use Rattle.slnf_keys.specs.Layout.{pair_number, pair_at, pair_of, key_number, si
 use Rattle.slnf_keys.specs.Keys.{flow_key_number, port_key_number}
 use Rattle.slnf_keys.specs.Values.{flow_to_number, flow_to_of, claim_number, claim_of}
 use Rattle.slnf_run.specs.Scene.{own_of, stand_of}
+use Rattle.slnf_box.specs.Nat.{Nat}
+use Rattle.slnf_box.specs.NatBox.{NatArrival}
 use Rattle.slnf_nat.specs.Flights.{NatFlight, Out, Look, Try, Confirm, Sweep, SweepPort, SweepFlow, Remove, first_of}
-use Rattle.slnf_nat.specs.Machine.{Nat, port_key, nat_asks, nat_machine}
-use Rattle.slnf_nat.specs.NatBox.{flow_at}
+use Rattle.slnf_nat.specs.Machine.{port_key, nat_asks, nat_machine}
+use Rattle.slnf_nat.specs.StoredFlows.{flow_at}
 use Rattle.slnf_nat.specs.NatScene.{nat_scene}
 use Rattle.slnf_nat.specs.Given.{IsNat, IsRanged, IsNatList}
 use Rattle.slnf_nat.specs.Leaks.{HasSwept, IsSweepAlone, IsSweepOf, IsThrough, IsOneToOne}
@@ -26,7 +28,6 @@ use Rattle.slnf_run.specs.Run.{EarlierEnded, IsDone, IsOffered, IsRun}
 use Rattle.slnf_access.specs.Order.{InOrder, IsInShard}
 use Rattle.slnf_run.proofs.Runs.{own_in_part}
 use Rattle.std.proofs.Common.{inl, inr}
-use Rattle.slnf_nat.specs.NatBox.{NatArrival}
 use Rattle.slnf_nat.proofs.LeaksOfRun.{own_image}
 use Rattle.slnf_nat.proofs.NothingLeaks.{nothing_leaks}
 use Rattle.std.proofs.Common.{slice_get}

@@ -15,9 +15,11 @@ use Rattle.slnf_keys.specs.declared.values.Claim.{Claim}
 use Rattle.slnf_base.specs.Ranges.{IsPair}
 use Rattle.slnf_keys.specs.Values.{flow_to_of, claim_of}
 use Rattle.slnf_run.specs.Boxes.{content_after}
+use Rattle.slnf_box.specs.Nat.{Nat}
+use Rattle.slnf_box.specs.NatBox.{nat_box}
 use Rattle.slnf_nat.specs.Flights.{Release, NatFlight, Out}
-use Rattle.slnf_nat.specs.Machine.{Nat, flow_key, port_key, nat_asks}
-use Rattle.slnf_nat.specs.NatBox.{nat_box, flow_in, flow_at, outside_of}
+use Rattle.slnf_nat.specs.Machine.{flow_key, port_key, nat_asks}
+use Rattle.slnf_nat.specs.StoredFlows.{flow_in, flow_at, outside_of}
 use Rattle.slnf_nat.specs.NatScene.{nat_scene}
 use Rattle.slnf_nat.specs.Kept.{claim_in, IsLive}
 use Rattle.slnf_nat.specs.Laws.{FlowsApart, PairsStay, ReleasesDone, FlowsWell, ClaimsWell}

@@ -15,8 +15,9 @@ use Rattle.slnf_run.specs.Scene.{is_of, own_of, stand_of}
 use Rattle.slnf_run.specs.Visits.{decision_of, decision_at}
 use Rattle.slnf_run.proofs.Splits.{slice_get-split}
 use Rattle.slnf_run.proofs.DecidedOnce.{is_of-itself, stand_of-append, stand_of-own}
+use Rattle.slnf_box.specs.Nat.{Nat}
 use Rattle.slnf_nat.specs.Flights.{Look, Try, Confirm, Release, Last, LookPort, LookFlow, SweepPort, SweepFlow, Remove, NatFlight, Out, In, Sweep, first_of}
-use Rattle.slnf_nat.specs.Machine.{Nat, flow_key, port_key, tried, nat_asks, nat_goes, nat_machine}
+use Rattle.slnf_nat.specs.Machine.{flow_key, port_key, tried, nat_asks, nat_goes, nat_machine}
 use Rattle.slnf_nat.specs.NatScene.{nat_scene}
 use Rattle.slnf_nat.specs.Given.{IsNat, IsRanged, IsNatList}
 use Rattle.slnf_nat.proofs.Keys.{flow_port}

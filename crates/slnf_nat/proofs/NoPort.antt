@@ -19,8 +19,9 @@ use Rattle.slnf_run.specs.Scene.{is_of, own_of, stand_of}
 use Rattle.slnf_run.proofs.Splits.{IsSplit, split_at}
 use Rattle.slnf_run.proofs.DecidedOnce.{IsDecision, is_decision, stand_of-own}
 use Rattle.std.proofs.lemmas.List.Elements.{filter-append}
+use Rattle.slnf_box.specs.Nat.{Nat}
 use Rattle.slnf_nat.specs.Flights.{Look, Try, Confirm, Release, Last, LookPort, LookFlow, SweepPort, SweepFlow, Remove, NatFlight, Out, In, Sweep, first_of}
-use Rattle.slnf_nat.specs.Machine.{Nat, nat_goes, nat_machine, claimed, entered, swept, names}
+use Rattle.slnf_nat.specs.Machine.{nat_goes, nat_machine, claimed, entered, swept, names}
 use Rattle.slnf_nat.specs.NatScene.{nat_scene}
 use Rattle.slnf_nat.specs.Laws.{NoPortStarves}
 use Rattle.slnf_nat.specs.Starved.{IsStarved}

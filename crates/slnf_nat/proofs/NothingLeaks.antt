@@ -10,9 +10,9 @@ use Rattle.slnf_base.specs.Ranges.{IsPair}
 use Rattle.slnf_run.specs.Run.{IsRun}
 use Rattle.slnf_run.specs.Parts.{part_of, is_stopped, Post, posts_of}
 use Rattle.slnf_run.specs.Setting.{Era, Setting, era_of, base_of, own_base}
+use Rattle.slnf_box.specs.Nat.{Nat}
+use Rattle.slnf_box.specs.NatBox.{NatArrival}
 use Rattle.slnf_nat.specs.Flights.{NatFlight, Out, In, SweepPort, Sweep, first_of}
-use Rattle.slnf_nat.specs.Machine.{Nat}
-use Rattle.slnf_nat.specs.NatBox.{NatArrival}
 use Rattle.slnf_nat.specs.Given.{IsNat, IsRanged, IsNatList}
 use Rattle.slnf_nat.specs.Leaks.{IsThrough, IsOneToOne}
 use Rattle.slnf_nat.specs.LeaksNothing.{IsSweepAt, IsFinishedAt, IsSweepItem, IsNatSetting, LeaksNothing}

@@ -19,12 +19,14 @@ use Rattle.slnf_keys.specs.declared.values.FlowTo.{FlowTo}
 use Rattle.slnf_keys.specs.declared.values.Claim.{Claim}
 use Rattle.slnf_keys.specs.Values.{flow_to_of, claim_of}
 use Rattle.slnf_run.specs.OneBox.{EndsWell}
+use Rattle.slnf_box.specs.Nat.{Nat}
+use Rattle.slnf_box.specs.Pools.{port_count, is_outbound, is_inbound, nat_of}
 use Rattle.slnf_nat.specs.Flights.{OutState, Look, Try, Confirm, Release, Last, InState, LookPort, LookFlow, SweepState, SweepPort, SweepFlow, Remove, NatFlight, Out, In, Sweep}
-use Rattle.slnf_nat.specs.Machine.{Nat, looked, released, goes_out, claimed, entered, goes_in, swept, names, goes_sweep, nat_goes, nat_decided, nat_machine}
+use Rattle.slnf_nat.specs.Machine.{looked, released, goes_out, claimed, entered, goes_in, swept, names, goes_sweep, nat_goes, nat_decided, nat_machine}
 use Rattle.slnf_nat.proofs.Firsts.{nat_steady}
 use Rattle.slnf_run.specs.FunctionLaws.{IsFunction}
 use Rattle.slnf_nat.specs.Behaviour.{IsPacketFlight, nat_behaviour}
-use Rattle.slnf_nat.specs.Pools.{port_count, is_outbound, is_inbound, nat_of, nat_starts, pool_port, sweep_item}
+use Rattle.slnf_nat.specs.Starts.{nat_starts, pool_port, sweep_item}
 
 -- what holds of a machine's stands at each step holds in the end
 stands_keep : {F : Type 0} (m : Machine F) (P : Stand F → Type 0) →

@@ -8,9 +8,10 @@ use Rattle.slnf_run.specs.Visits.{Decision, decision_at}
 use Rattle.slnf_run.specs.Boxes.{content_after}
 use Rattle.slnf_run.proofs.DecidedOnce.{is_decision, is_of-itself}
 use Rattle.slnf_run.proofs.Placed.{box_verdict}
+use Rattle.slnf_box.specs.Nat.{Nat}
+use Rattle.slnf_box.specs.NatBox.{nat_verdict, nat_box}
 use Rattle.slnf_nat.specs.Flights.{NatFlight}
-use Rattle.slnf_nat.specs.Machine.{Nat}
-use Rattle.slnf_nat.specs.NatBox.{nat_verdict, nat_box, IsSameFlows}
+use Rattle.slnf_nat.specs.StoredFlows.{IsSameFlows}
 use Rattle.slnf_nat.specs.NatScene.{is_no_flow, is_in, nat_place, nat_arrival, nat_scene}
 use Rattle.slnf_nat.specs.Given.{IsNat, IsNatList}
 use Rattle.slnf_nat.proofs.Firsts.{nat_steady, nat_own_places}

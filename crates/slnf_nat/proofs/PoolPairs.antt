@@ -5,8 +5,8 @@ use Rattle.std.proofs.lemmas.Nat.{mod_below}
 use Rattle.slnf_base.specs.declared.addresses.Pair.{Pair}
 use Rattle.slnf_base.specs.declared.plans.Pool.{Pool}
 use Rattle.slnf_base.specs.Ranges.{IsPair}
+use Rattle.slnf_box.specs.Pools.{port_count, has_pair, nat_of, candidate, IsPool}
 use Rattle.slnf_nat.specs.Given.{IsNat}
-use Rattle.slnf_nat.specs.Pools.{port_count, has_pair, nat_of, candidate, IsPool}
 use Rattle.slnf_nat.proofs.Covering.{port_at, pair_made, offset_once}
 
 -- a port of the pool is one of its ports

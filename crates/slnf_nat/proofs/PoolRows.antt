@@ -24,10 +24,11 @@ use Rattle.slnf_keys.specs.Values.{flow_to_number, flow_to_of, claim_number, cla
 use Rattle.slnf_run.specs.Scene.{own_of, stand_of}
 use Rattle.slnf_run.specs.Visits.{visits_of}
 use Rattle.slnf_run.specs.Boxes.{content_after}
+use Rattle.slnf_box.specs.NatBox.{nat_verdict, nat_box}
+use Rattle.slnf_box.specs.Pools.{nat_of, candidate}
 use Rattle.slnf_nat.specs.Flights.{NatFlight, Out, In, Look, LookPort}
 use Rattle.slnf_nat.specs.Machine.{flow_key, port_key, nat_machine}
-use Rattle.slnf_nat.specs.Pools.{nat_of, candidate, sweep_item}
-use Rattle.slnf_nat.specs.NatBox.{nat_verdict, nat_box}
+use Rattle.slnf_nat.specs.Starts.{sweep_item}
 use Rattle.slnf_nat.specs.NatScene.{nat_scene}
 
 -- 10.0.0.0/8, and 203.0.113.1

@@ -11,8 +11,9 @@ use Rattle.slnf_access.specs.Machines.{Stand, Flies, Ends, IsPath, stand_of_step
 use Rattle.slnf_keys.specs.declared.values.FlowTo.{FlowTo}
 use Rattle.slnf_keys.specs.declared.values.Claim.{Claim}
 use Rattle.slnf_keys.specs.Values.{flow_to_of, claim_of}
+use Rattle.slnf_box.specs.Nat.{Nat}
 use Rattle.slnf_nat.specs.Flights.{OutState, Look, Try, Confirm, Release, Last, InState, LookPort, LookFlow, SweepState, SweepPort, SweepFlow, Remove, NatFlight, Out, In, Sweep}
-use Rattle.slnf_nat.specs.Machine.{Nat, looked, try_after, released, goes_out, claimed, entered, goes_in, swept, names, goes_sweep, nat_goes, nat_machine}
+use Rattle.slnf_nat.specs.Machine.{looked, try_after, released, goes_out, claimed, entered, goes_in, swept, names, goes_sweep, nat_goes, nat_machine}
 
 -- the rank of where an item stands; one that has ended has none
 abbrev rank_at : (NatFlight → ℕ) → Stand NatFlight → ℕ

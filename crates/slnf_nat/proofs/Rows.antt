@@ -15,15 +15,16 @@ use Rattle.slnf_keys.specs.Keys.{flow_key_number, port_key_number}
 use Rattle.slnf_keys.specs.Values.{flow_to_number, flow_to_of, claim_number, claim_of}
 use Rattle.slnf_run.specs.Visits.{visits_of}
 use Rattle.slnf_run.specs.Boxes.{content_after}
+use Rattle.slnf_box.specs.Nat.{Nat}
+use Rattle.slnf_box.specs.NatBox.{nat_box}
 use Rattle.slnf_nat.specs.Flights.{NatFlight, Out, In, Look, Try, Confirm, LookPort, LookFlow}
-use Rattle.slnf_nat.specs.Machine.{Nat, nat_asks}
-use Rattle.slnf_nat.specs.NatBox.{nat_box}
+use Rattle.slnf_nat.specs.Machine.{nat_asks}
 use Rattle.slnf_nat.specs.NatScene.{nat_scene}
 use Rattle.slnf_access.specs.Machines.{IsPath}
 use Rattle.slnf_run.specs.Scene.{is_of, own_of}
 use Rattle.slnf_run.specs.Boxes.{IsExplained}
 use Rattle.slnf_nat.specs.Machine.{nat_machine}
-use Rattle.slnf_nat.specs.NatBox.{IsSameFlows}
+use Rattle.slnf_nat.specs.StoredFlows.{IsSameFlows}
 use Rattle.slnf_nat.specs.Given.{IsNat, IsRanged, IsNatList}
 use Rattle.slnf_nat.specs.Flights.{first_of}
 use Rattle.slnf_nat.proofs.Explained.{nat_explained}

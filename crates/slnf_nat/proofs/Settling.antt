@@ -10,9 +10,10 @@ use Rattle.slnf_run.specs.Scene.{own_of, stand_of}
 use Rattle.slnf_run.specs.Setting.{Era, Setting, era_of, base_of}
 use Rattle.slnf_run.specs.Parts.{part_of, Offer, is_stopped, Post, posts_of, offers_at}
 use Rattle.slnf_run.proofs.DecidedOnce.{stand_of-append}
+use Rattle.slnf_box.specs.Nat.{Nat}
+use Rattle.slnf_box.specs.NatBox.{NatArrival}
 use Rattle.slnf_nat.specs.Flights.{NatFlight}
-use Rattle.slnf_nat.specs.Machine.{Nat, nat_machine}
-use Rattle.slnf_nat.specs.NatBox.{NatArrival}
+use Rattle.slnf_nat.specs.Machine.{nat_machine}
 use Rattle.slnf_nat.specs.NatScene.{nat_scene}
 use Rattle.slnf_nat.specs.Kept.{SomeEntry}
 use Rattle.slnf_nat.specs.Leaks.{IsThrough, Hangs, IsSettled}

@@ -23,9 +23,11 @@ use Rattle.slnf_base.specs.Ranges.{IsPair}
 use Rattle.slnf_keys.specs.Values.{flow_to_number, flow_to_of, claim_number, claim_of}
 use Rattle.slnf_keys.proofs.Laws.{flow_to-coded, claim-coded}
 use Rattle.slnf_run.specs.Scene.{is_of}
+use Rattle.slnf_box.specs.Nat.{Nat}
+use Rattle.slnf_box.specs.NatBox.{Flow}
 use Rattle.slnf_nat.specs.Flights.{OutState, Look, Try, Confirm, Release, Last, InState, LookPort, LookFlow, SweepPort, SweepFlow, Remove, NatFlight, Out, In, Sweep}
-use Rattle.slnf_nat.specs.Machine.{Nat, flow_key, port_key, tried, nat_asks, nat_goes, nat_machine, decided_out, looked, released, claimed, entered, swept, names}
-use Rattle.slnf_nat.specs.NatBox.{Flow, flow_in, flow_at, outside_of}
+use Rattle.slnf_nat.specs.Machine.{flow_key, port_key, tried, nat_asks, nat_goes, nat_machine, decided_out, looked, released, claimed, entered, swept, names}
+use Rattle.slnf_nat.specs.StoredFlows.{flow_in, flow_at, outside_of}
 use Rattle.slnf_nat.specs.Kept.{IsStampBy, IsCurrent, IsClaimed, IsUnnamed, IsOwned, IsOldClaim, HasSeen, HoldsOut, HoldsIn, HoldsSweep, Holds, HasStamps, IsLive, IsBoxed}
 use Rattle.slnf_nat.specs.Given.{IsNat, IsRanged}
 use Rattle.slnf_nat.proofs.Lists.{some_entry-more, some_entry-last, each-parts}

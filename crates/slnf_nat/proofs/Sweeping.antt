@@ -21,9 +21,10 @@ use Rattle.slnf_keys.specs.Values.{claim_number, flow_to_of, claim_of}
 use Rattle.slnf_keys.proofs.Laws.{claim-coded}
 use Rattle.slnf_run.specs.Scene.{is_of, stand_of}
 use Rattle.slnf_run.proofs.Splits.{IsSplit, split_at}
+use Rattle.slnf_box.specs.Nat.{Nat}
 use Rattle.slnf_nat.specs.Flights.{Look, Try, Confirm, Release, Last, LookPort, LookFlow, SweepState, SweepPort, SweepFlow, Remove, NatFlight, Out, In, Sweep, first_of}
-use Rattle.slnf_nat.specs.Machine.{Nat, flow_key, port_key, tried, nat_asks, nat_goes, swept, names}
-use Rattle.slnf_nat.specs.NatBox.{flow_in, flow_at, outside_of}
+use Rattle.slnf_nat.specs.Machine.{flow_key, port_key, tried, nat_asks, nat_goes, swept, names}
+use Rattle.slnf_nat.specs.StoredFlows.{flow_in, flow_at, outside_of}
 use Rattle.slnf_nat.specs.NatScene.{nat_scene}
 use Rattle.slnf_nat.specs.Kept.{SomeEntry, IsOldClaim, HoldsSweep}
 use Rattle.slnf_nat.specs.Given.{IsNat, IsRanged, IsNatList}

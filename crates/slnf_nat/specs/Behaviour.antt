@@ -5,9 +5,11 @@ use Rattle.slnf_access.specs.declared.requests.Reply.{Reply}
 use Rattle.slnf_access.specs.declared.functions.Step.{Step}
 use Rattle.slnf_access.specs.declared.functions.Step.TheVariants.{Over as StepOver}
 use Rattle.slnf_access.specs.Machines.{Behaviour}
+use Rattle.slnf_box.specs.Nat.{Nat}
+use Rattle.slnf_box.specs.Pools.{nat_of}
 use Rattle.slnf_nat.specs.Flights.{NatFlight, Out, In, Sweep}
-use Rattle.slnf_nat.specs.Machine.{Nat, nat_asks, goes_out, goes_in, nat_decided}
-use Rattle.slnf_nat.specs.Pools.{nat_of, nat_starts}
+use Rattle.slnf_nat.specs.Machine.{nat_asks, goes_out, goes_in, nat_decided}
+use Rattle.slnf_nat.specs.Starts.{nat_starts}
 
 -- how a packet goes on; a sweep's port is none
 abbrev pub nat_steps : Nat → NatFlight → Reply → Step NatFlight

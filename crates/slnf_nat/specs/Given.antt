@@ -8,8 +8,9 @@ use Rattle.slnf_access.specs.Order.{RisesOnKeys}
 use Rattle.slnf_access.specs.Machines.{Stand, Flies, IsPath}
 use Rattle.slnf_base.specs.Ranges.{IsPair}
 use Rattle.slnf_run.specs.Scene.{own_of}
+use Rattle.slnf_box.specs.Nat.{Nat}
 use Rattle.slnf_nat.specs.Flights.{NatFlight, Out, In, Sweep, first_of}
-use Rattle.slnf_nat.specs.Machine.{Nat, nat_machine}
+use Rattle.slnf_nat.specs.Machine.{nat_machine}
 use Rattle.std.specs.List.{AllByRecursion}
 
 -- The pool has a port. Each candidate is one of its pairs, in range, and one that the flow may have; and each pair that a flow may

@@ -10,9 +10,11 @@ use Rattle.slnf_access.specs.Machines.{Stand, Flies}
 use Rattle.slnf_keys.specs.declared.values.Claim.{Claim}
 use Rattle.slnf_base.specs.Ranges.{IsPair}
 use Rattle.slnf_keys.specs.Values.{claim_of}
+use Rattle.slnf_box.specs.Nat.{Nat}
+use Rattle.slnf_box.specs.NatBox.{Flow, pair_of, owner}
 use Rattle.slnf_nat.specs.Flights.{OutState, Look, Try, Confirm, Release, Last, InState, LookPort, LookFlow, SweepState, SweepPort, SweepFlow, Remove, NatFlight, Out, In, Sweep, first_of}
-use Rattle.slnf_nat.specs.Machine.{Nat, flow_key, port_key, tried}
-use Rattle.slnf_nat.specs.NatBox.{Flow, pair_of, owner, flow_at}
+use Rattle.slnf_nat.specs.Machine.{flow_key, port_key, tried}
+use Rattle.slnf_nat.specs.StoredFlows.{flow_at}
 use Rattle.std.specs.List.{AllByRecursion}
 
 -- one of these entries has this

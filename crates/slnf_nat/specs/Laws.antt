@@ -17,9 +17,11 @@ use Rattle.slnf_keys.specs.Values.{flow_to_of, claim_of}
 use Rattle.slnf_run.specs.Scene.{own_of, stand_of}
 use Rattle.slnf_run.specs.Visits.{Decision, decision_at}
 use Rattle.slnf_run.specs.Boxes.{content_after}
+use Rattle.slnf_box.specs.Nat.{Nat}
+use Rattle.slnf_box.specs.NatBox.{nat_verdict, nat_box}
 use Rattle.slnf_nat.specs.Flights.{NatFlight, Look, Release, Out}
-use Rattle.slnf_nat.specs.Machine.{Nat, flow_key, port_key}
-use Rattle.slnf_nat.specs.NatBox.{nat_verdict, nat_box, flow_at}
+use Rattle.slnf_nat.specs.Machine.{flow_key, port_key}
+use Rattle.slnf_nat.specs.StoredFlows.{flow_at}
 use Rattle.slnf_nat.specs.NatScene.{nat_place, nat_arrival, nat_scene}
 use Rattle.slnf_nat.specs.Starved.{IsStarved}
 

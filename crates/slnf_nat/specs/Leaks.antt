@@ -11,9 +11,10 @@ use Rattle.slnf_keys.specs.declared.values.Claim.{Claim}
 use Rattle.slnf_base.specs.Ranges.{IsPair}
 use Rattle.slnf_keys.specs.Values.{claim_of}
 use Rattle.slnf_run.specs.Scene.{stand_of}
+use Rattle.slnf_box.specs.Nat.{Nat}
 use Rattle.slnf_nat.specs.Flights.{Look, Try, Confirm, Release, Last, NatFlight, Out, In, Sweep, SweepPort}
-use Rattle.slnf_nat.specs.Machine.{Nat, flow_key, port_key, tried}
-use Rattle.slnf_nat.specs.NatBox.{flow_at}
+use Rattle.slnf_nat.specs.Machine.{flow_key, port_key, tried}
+use Rattle.slnf_nat.specs.StoredFlows.{flow_at}
 use Rattle.slnf_nat.specs.NatScene.{nat_scene}
 use Rattle.slnf_nat.specs.Kept.{IsUnnamed, IsOldClaim}
 use Rattle.std.specs.List.{AllByRecursion}

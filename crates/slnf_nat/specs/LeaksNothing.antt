@@ -10,9 +10,10 @@ use Rattle.slnf_base.specs.Ranges.{IsPair}
 use Rattle.slnf_run.specs.Setting.{Era, Setting, era_of, own_base}
 use Rattle.slnf_run.specs.Parts.{part_of, is_stopped, Post, posts_of}
 use Rattle.slnf_run.specs.Images.{IsSceneImage}
+use Rattle.slnf_box.specs.Nat.{Nat}
+use Rattle.slnf_box.specs.NatBox.{NatArrival}
 use Rattle.slnf_nat.specs.Flights.{NatFlight, Out, In, Sweep, first_of}
-use Rattle.slnf_nat.specs.Machine.{Nat, port_key}
-use Rattle.slnf_nat.specs.NatBox.{NatArrival}
+use Rattle.slnf_nat.specs.Machine.{port_key}
 use Rattle.slnf_nat.specs.NatScene.{nat_scene}
 use Rattle.slnf_nat.specs.Given.{IsRanged}
 use Rattle.slnf_nat.specs.Leaks.{IsSweepOf, IsThrough, IsTidy, IsBacked, HasClaim, IsSweptAway, IsOneToOne}

@@ -5,8 +5,9 @@ use Rattle.slnf_base.specs.declared.packets.Reason.{Reason}
 use Rattle.slnf_base.specs.declared.packets.Reason.TheVariants.{Neither}
 use Rattle.slnf_base.specs.declared.plans.Pool.{Pool}
 use Rattle.slnf_access.specs.declared.functions.Start.TheVariants.{Go as StartGo, Over as StartOver}
+use Rattle.slnf_box.specs.Pools.{is_outbound, is_inbound}
 use Rattle.slnf_nat.specs.Flights.{NatFlight}
-use Rattle.slnf_nat.specs.Pools.{is_outbound, is_inbound, nat_starts}
+use Rattle.slnf_nat.specs.Starts.{nat_starts}
 
 -- of two flights and a refusal, the refusal alone refuses
 refused : (first second : Bool) (a b : NatFlight) (reason : Reason) →

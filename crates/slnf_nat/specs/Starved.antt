@@ -7,8 +7,9 @@ use Rattle.slnf_access.specs.declared.requests.Request.TheVariants.{PutIfAbsent}
 use Rattle.slnf_access.specs.declared.requests.Reply.{Reply}
 use Rattle.slnf_access.specs.declared.requests.Reply.TheVariants.{Done, Found, Absent}
 use Rattle.slnf_keys.specs.Values.{claim_number}
+use Rattle.slnf_box.specs.Nat.{Nat}
 use Rattle.slnf_nat.specs.Flights.{Last, Out}
-use Rattle.slnf_nat.specs.Machine.{Nat, port_key, nat_asks}
+use Rattle.slnf_nat.specs.Machine.{port_key, nat_asks}
 use Rattle.slnf_nat.specs.Kept.{SomeEntry}
 
 abbrev pub IsFound : Reply → Type 0

@@ -1,8 +1,8 @@
-use crate::candidates::{is_inbound, is_outbound};
 use crate::flights::{Course, InState, NatFlight, OutState};
 use crate::steps::{after_in, after_out, next_in, next_out};
 use slnf_access::{Function, Reply, Request, Start, Step};
 use slnf_base::{Packet, Pool, Reason};
+use slnf_box::{is_inbound, is_outbound};
 
 /// A NAT: each flow from the inside gets a pair of the pool, and packets to that pair go to the flow's inside pair.
 #[derive(Debug, Drop)]

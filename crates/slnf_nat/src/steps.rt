@@ -3,14 +3,14 @@ ghost use Rattle.slnf_base.specs.declared.packets.Reason.TheVariants.{NoFlow};
 ghost use Rattle.slnf_base.specs.declared.packets.Verdict.TheVariants.{Dropped};
 ghost use Rattle.slnf_access.specs.declared.functions.Step.TheVariants.{Go as StepGo, Over as StepOver};
 ghost use Rattle.slnf_keys.specs.Values.{flow_to_number, flow_to_of, claim_number, claim_of};
+ghost use Rattle.slnf_box.specs.Pools.{nat_of};
 ghost use Rattle.slnf_nat.specs.Flights.{Out, In};
 ghost use Rattle.slnf_nat.specs.Machine.{flow_key, port_key, asks_out, asks_in, looked, try_after, released, goes_out, claimed, entered, goes_in};
-ghost use Rattle.slnf_nat.specs.Pools.{nat_of};
 
-use crate::candidates::{candidate, port_count};
 use crate::flights::{Course, InState, NatFlight, OutState};
 use slnf_access::{Key, Reply, Request, Step, Value};
 use slnf_base::{Change, Packet, Pair, Pool, Proto, Reason, Verdict};
+use slnf_box::{candidate, port_count};
 use slnf_keys::{Claim, FlowKey, FlowTo, PortKey};
 
 /// The key of a flow.

@@ -12,16 +12,19 @@ ghost use Rattle.slnf_run.specs.Boxes.{IsExplained};
 ghost use Rattle.slnf_run.specs.FunctionLaws.{IsFunction};
 ghost use Rattle.slnf_run.specs.Run.{IsRun};
 ghost use Rattle.slnf_run.specs.Setting.{Setting, own_base};
+ghost use Rattle.slnf_box.specs.Nat.{Nat};
+ghost use Rattle.slnf_box.specs.NatBox.{NatArrival, nat_box};
+ghost use Rattle.slnf_box.specs.Pools.{candidate, port_count, has_pair, nat_of, IsPool};
 ghost use Rattle.slnf_nat.specs.Behaviour.{nat_behaviour, IsPacketFlight};
 ghost use Rattle.slnf_nat.specs.Flights.{NatFlight, OutState, InState, SweepState, Out, In, Sweep};
 ghost use Rattle.slnf_nat.specs.Given.{IsNat, IsNatList};
 ghost use Rattle.slnf_nat.specs.Laws.{BoxDecides, FlowsApart, PairsStay, HaveSources, NoPortStarves, ReleasesDone, FlowsWell, ClaimsWell};
 ghost use Rattle.slnf_nat.specs.Leaks.{IsBacked};
 ghost use Rattle.slnf_nat.specs.LeaksNothing.{IsNatSetting, LeaksNothing};
-ghost use Rattle.slnf_nat.specs.Machine.{Nat, nat_machine};
-ghost use Rattle.slnf_nat.specs.NatBox.{NatArrival, nat_box, IsSameFlows};
+ghost use Rattle.slnf_nat.specs.Machine.{nat_machine};
+ghost use Rattle.slnf_nat.specs.StoredFlows.{IsSameFlows};
 ghost use Rattle.slnf_nat.specs.NatScene.{nat_scene};
-ghost use Rattle.slnf_nat.specs.Pools.{candidate, port_count, has_pair, nat_of, nat_starts, sweep_item, IsPool};
+ghost use Rattle.slnf_nat.specs.Starts.{nat_starts, sweep_item};
 
 /// The candidates of a flow at the places below the number of ports are the pool's pairs, each once.
 pub fn candidates_are_pairs()

@@ -9,8 +9,8 @@ use Rattle.slnf_run.specs.Setting.{Setting}
 use Rattle.slnf_run.specs.Run.{IsRun}
 use Rattle.slnf_run.specs.Scheduled.{usual_way, Makes, in_order as in_order_of}
 use Rattle.slnf_run.specs.Verdicts.{verdicts_of}
+use Rattle.slnf_box.specs.Nat.{Nat}
 use Rattle.slnf_nat.specs.Flights.{NatFlight}
-use Rattle.slnf_nat.specs.Machine.{Nat}
 use Rattle.slnf_flight.specs.declared.flights.AnyFlight.{AnyFlight}
 use Rattle.slnf_flight.specs.Actors.{eras_of}
 use Rattle.slnf_flight.specs.Flights.{Arrival}

@@ -21,18 +21,19 @@ use Rattle.slnf_run.specs.Boxes.{IsExplained}
 use Rattle.slnf_run.specs.Scene.{Scene}
 use Rattle.slnf_run.specs.Cases.{case_machine}
 use Rattle.slnf_run.specs.Scheduled.{usual_way, IsScheduled}
+use Rattle.slnf_box.specs.Nat.{Nat}
+use Rattle.slnf_box.specs.Pools.{nat_of}
+use Rattle.slnf_box.specs.declared.policies.Policy.{Policy}
 use Rattle.slnf_nat.specs.declared.flights.OutState.TheVariants.{Look, Try, Confirm}
 use Rattle.slnf_nat.specs.Flights.{SweepState, SweepPort, SweepFlow, Remove, NatFlight, Out, In, Sweep}
-use Rattle.slnf_nat.specs.Machine.{Nat, tried, looked, nat_asks, asks_sweep, goes_sweep, nat_machine}
-use Rattle.slnf_nat.specs.NatBox.{IsSameFlows}
-use Rattle.slnf_nat.specs.Pools.{nat_of}
+use Rattle.slnf_nat.specs.Machine.{tried, looked, nat_asks, asks_sweep, goes_sweep, nat_machine}
+use Rattle.slnf_nat.specs.StoredFlows.{IsSameFlows}
 use Rattle.slnf_fw.specs.declared.flights.FwState.{FwState}
 use Rattle.slnf_fw.specs.declared.flights.FwState.TheVariants.{Alter}
 use Rattle.slnf_fw.specs.Flight.{Flying}
 use Rattle.slnf_fw.specs.Machine.{fw_machine}
-use Rattle.slnf_fw.specs.Packets.{Policy}
-use Rattle.slnf_fw.specs.Box.{IsSameConns}
-use Rattle.slnf_lb.specs.Box.{IsSameMap}
+use Rattle.slnf_fw.specs.Conns.{IsSameConns}
+use Rattle.slnf_lb.specs.StoredPins.{IsSameMap}
 use Rattle.slnf_flight.specs.declared.flights.AnyFlight.{AnyFlight}
 use Rattle.slnf_flight.specs.Actors.{eras_of}
 use Rattle.slnf_flight.specs.Flights.{Arrival}

@@ -26,6 +26,7 @@ use Rattle.slnf_setting.proofs.Beginning.{begins_in_sweep}
 use Rattle.slnf_run.proofs.WholeCases.{own_paths}
 use Rattle.slnf_run.proofs.Offering.{IsOffering, offering_of_run}
 use Rattle.slnf_run.proofs.Itemized.{each_of_all, sum_most, sum_append, packets, packets_few, sweeps, sweeps_few, each_of_sweeps, of_these, each_item_weaker}
+use Rattle.slnf_box.specs.Pools.{port_count}
 use Rattle.slnf_nat.specs.Flights.{Out, In, Sweep}
 use Rattle.slnf_fw.specs.Bound.{IsBounded}
 use Rattle.slnf_flight.specs.Actors.{instance_actor, sweep_actors, eras_of}
@@ -33,7 +34,7 @@ use Rattle.slnf_flight.specs.declared.flights.AnyFlight.{AnyFlight}
 use Rattle.slnf_flight.specs.declared.flights.AnyFlight.TheVariants.{Nat as NatFlies, Firewall as FwFlies, Balancer as LbFlies}
 use Rattle.slnf_flight.specs.Flights.{Arrival}
 use Rattle.slnf_setting.specs.Fits.{has_types}
-use Rattle.slnf_nat.specs.Pools.{port_count, nat_starts}
+use Rattle.slnf_nat.specs.Starts.{nat_starts}
 use Rattle.slnf_flight.specs.NatPlan.{nat_sweeps}
 use Rattle.slnf_flight.specs.FwPlan.{policy_with, fw_starts}
 use Rattle.slnf_flight.specs.PlanSetting.{fw_own, fw_case, scene_of, sweep_items_of, setting_with, setting_of}

@@ -7,9 +7,10 @@ use Rattle.slnf_access.specs.declared.requests.Entry.{Entry}
 use Rattle.slnf_access.specs.Map.{empty, map_after}
 use Rattle.slnf_access.specs.Machines.{Stand}
 use Rattle.slnf_run.proofs.DecidedOnce.{take_further}
+use Rattle.slnf_box.specs.Nat.{Nat}
 use Rattle.slnf_nat.specs.Flights.{NatFlight}
-use Rattle.slnf_nat.specs.Machine.{Nat, flow_key}
-use Rattle.slnf_nat.specs.NatBox.{flow_in, flow_at}
+use Rattle.slnf_nat.specs.Machine.{flow_key}
+use Rattle.slnf_nat.specs.StoredFlows.{flow_in, flow_at}
 use Rattle.slnf_nat.specs.Given.{IsNat, IsNatList}
 use Rattle.slnf_nat.proofs.Nexts.{flow_stays}
 use Rattle.slnf_nat.proofs.Explained.{flow_there}

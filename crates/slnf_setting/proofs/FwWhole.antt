@@ -13,17 +13,17 @@ use Rattle.slnf_run.specs.Run.{IsRun}
 use Rattle.slnf_run.specs.Setting.{Setting}
 use Rattle.slnf_access.proofs.Orders.{rises_in_order}
 use Rattle.slnf_run.specs.OneBox.{EndsWell, IsSound, IsOneBoxWhole}
-use Rattle.slnf_fw.specs.declared.flights.Tracked.{Tracked}
-use Rattle.slnf_fw.specs.Conns.{tracked_of}
-use Rattle.slnf_fw.specs.Packets.{Policy}
-use Rattle.slnf_fw.specs.declared.choices.Choice.{Choice}
-use Rattle.slnf_fw.specs.declared.choices.Choice.TheVariants.{Refuses, Passes, Writes}
-use Rattle.slnf_fw.specs.Choices.{choice_of}
+use Rattle.slnf_box.specs.Choices.{choice_of}
+use Rattle.slnf_box.specs.FwBox.{fw_box}
+use Rattle.slnf_box.specs.declared.choices.Choice.{Choice}
+use Rattle.slnf_box.specs.declared.choices.Choice.TheVariants.{Refuses, Passes, Writes}
+use Rattle.slnf_box.specs.declared.choices.Tracked.{Tracked}
+use Rattle.slnf_box.specs.declared.policies.Policy.{Policy}
+use Rattle.slnf_fw.specs.Conns.{tracked_of, IsSameConns}
 use Rattle.slnf_fw.specs.declared.flights.FwState.{FwState}
 use Rattle.slnf_fw.specs.declared.flights.FwState.TheVariants.{Look, Add, Alter}
 use Rattle.slnf_fw.specs.Flight.{Flying}
 use Rattle.slnf_fw.specs.Machine.{step_of_choice, decide_found, decide, after_write, fw_goes, fw_machine}
-use Rattle.slnf_fw.specs.Box.{fw_box, IsSameConns}
 use Rattle.slnf_fw.specs.Scene.{IsFirst, BeginsFlights}
 use Rattle.slnf_fw.proofs.Laws.{fw_explained, fw_first}
 use Rattle.slnf_flight.specs.declared.lanes.Lane.{Lane}

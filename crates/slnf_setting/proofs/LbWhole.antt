@@ -25,13 +25,14 @@ use Rattle.slnf_plan.specs.Ranges.{has_lanes_apart}
 use Rattle.slnf_run.specs.Run.{IsRun}
 use Rattle.slnf_run.specs.Setting.{Setting, era_of}
 use Rattle.slnf_run.specs.OneBox.{EndsWell, IsSound, IsOneBoxWhole}
+use Rattle.slnf_box.specs.LbBox.{LbArrival, lb_box}
+use Rattle.slnf_box.specs.Services.{is_forward, is_return}
 use Rattle.slnf_lb.specs.declared.flights.LbState.{LbState}
 use Rattle.slnf_lb.specs.declared.flights.LbState.TheVariants.{Forward, Put, Return}
 use Rattle.slnf_lb.specs.Flight.{Flying}
-use Rattle.slnf_lb.specs.Machine.{is_forward, is_return, choice_of, forwarded, returned, goes_in, lb_machine}
-use Rattle.slnf_lb.specs.Box.{IsSameMap}
+use Rattle.slnf_lb.specs.Machine.{choice_of, forwarded, returned, goes_in, lb_machine}
+use Rattle.slnf_lb.specs.StoredPins.{IsSameMap}
 use Rattle.slnf_lb.specs.Kept.{IsFlight}
-use Rattle.slnf_lb.specs.Scene.{LbArrival, lb_box}
 use Rattle.slnf_lb.proofs.OneBox.{lb_explained}
 use Rattle.slnf_flight.specs.declared.lanes.Lane.{Lane}
 use Rattle.slnf_flight.specs.Actors.{eras_of}

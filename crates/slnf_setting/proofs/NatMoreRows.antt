@@ -16,12 +16,12 @@ use Rattle.slnf_plan.specs.declared.plan.Plan.{Plan}
 use Rattle.slnf_run.specs.Verdicts.{verdicts_of}
 use Rattle.slnf_run.specs.Scheduled.{usual_way, IsScheduled}
 use Rattle.slnf_run.specs.Visits.{visits_of}
-use Rattle.slnf_nat.specs.NatBox.{nat_box, Flow, NatArrival}
+use Rattle.slnf_box.specs.NatBox.{nat_box, Flow, NatArrival}
 use Rattle.slnf_setting.proofs.NatRow.{five, packet_f, port, flow, tcp, claim, to}
 use Rattle.slnf_setting.proofs.NatRows.{wide, narrow}
 use Rattle.slnf_flight.specs.declared.lanes.Taken.TheVariants.{Seen}
 use Rattle.slnf_flight.specs.declared.lanes.Lane.{Lane}
-use Rattle.slnf_nat.specs.Pools.{nat_of}
+use Rattle.slnf_box.specs.Pools.{nat_of}
 use Rattle.slnf_flight.specs.PlanSetting.{setting_of}
 use Rattle.slnf_setting.proofs.PlanSchedules.{run_of_schedule}
 use Rattle.slnf_setting.proofs.RowParts.{lane_of, epoch_of, on_lane, with_stop, entry, plan_of}

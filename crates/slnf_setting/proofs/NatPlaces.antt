@@ -6,8 +6,8 @@ use Rattle.slnf_access.specs.Machines.{Stand}
 use Rattle.slnf_run.specs.Looks.{first_of_own}
 use Rattle.slnf_run.specs.OneBox.{HasPlaces}
 use Rattle.slnf_run.proofs.Whole.{places_looking}
+use Rattle.slnf_box.specs.Nat.{Nat}
 use Rattle.slnf_nat.specs.Flights.{NatFlight}
-use Rattle.slnf_nat.specs.Machine.{Nat}
 use Rattle.slnf_nat.specs.NatScene.{looks_back, nat_scene}
 use Rattle.slnf_flight.specs.Flights.{nat_flight}
 use Rattle.slnf_run.specs.Cases.{case_place, case_scene}

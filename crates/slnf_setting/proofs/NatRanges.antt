@@ -7,6 +7,7 @@ use Rattle.slnf_access.specs.Machines.{Stand, Flies, Ends}
 use Rattle.slnf_base.specs.Ranges.{IsPair}
 use Rattle.slnf_plan.specs.declared.plan.Epoch.{Epoch}
 use Rattle.slnf_run.proofs.NextAccess.{same_flight}
+use Rattle.slnf_box.specs.Pools.{IsPool, port_count, nat_of}
 use Rattle.slnf_nat.specs.Flights.{SweepPort, NatFlight, Sweep, first_of}
 use Rattle.slnf_nat.specs.Given.{IsRanged}
 use Rattle.slnf_flight.specs.declared.lanes.Lane.{Lane}
@@ -15,7 +16,7 @@ use Rattle.slnf_flight.specs.Begins.{begins_of}
 use Rattle.slnf_plan.specs.declared.plan.FunctionPlan.TheVariants.{Nat}
 use Rattle.slnf_setting.proofs.Fitting.{lanes_fit}
 use Rattle.slnf_setting.proofs.PlanFits.{PlanFits, pool_fits}
-use Rattle.slnf_nat.specs.Pools.{IsPool, port_count, nat_of, nat_starts, pool_port, sweep_item}
+use Rattle.slnf_nat.specs.Starts.{nat_starts, pool_port, sweep_item}
 use Rattle.slnf_flight.specs.NatPlan.{nat_sweeps}
 use Rattle.slnf_nat.proofs.PoolPairs.{port_fits}
 use Rattle.slnf_nat.proofs.PacketEnds.{starts_as}

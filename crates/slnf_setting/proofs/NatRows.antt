@@ -22,7 +22,7 @@ use Rattle.slnf_run.specs.Boxes.{content_after}
 use Rattle.slnf_setting.proofs.NatRow.{pool_to, five, six, server, packet_f, packet_g, port, flow, tcp, claim, to}
 use Rattle.slnf_flight.specs.declared.lanes.Taken.TheVariants.{Seen}
 use Rattle.slnf_flight.specs.declared.lanes.Lane.{Lane}
-use Rattle.slnf_nat.specs.Pools.{nat_of}
+use Rattle.slnf_box.specs.Pools.{nat_of}
 use Rattle.slnf_flight.specs.PlanSetting.{setting_of}
 use Rattle.slnf_setting.proofs.PlanSchedules.{run_of_schedule}
 use Rattle.slnf_setting.proofs.RowParts.{lane_of, epoch_of, on_lane, entry, plan_of}

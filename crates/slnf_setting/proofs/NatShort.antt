@@ -3,8 +3,9 @@ use Rattle.std.proofs.Common.{ℕ, ◌≤◌, ◌<◌, List, length}
 use Rattle.slnf_base.specs.declared.packets.Packet.{Packet}
 use Rattle.slnf_access.specs.declared.requests.Entry.{Entry}
 use Rattle.slnf_access.specs.Machines.{Stand, Flies, Ends, IsPath}
+use Rattle.slnf_box.specs.Nat.{Nat}
 use Rattle.slnf_nat.specs.Flights.{NatFlight, Out, In, Sweep}
-use Rattle.slnf_nat.specs.Machine.{Nat, nat_machine}
+use Rattle.slnf_nat.specs.Machine.{nat_machine}
 use Rattle.slnf_nat.proofs.Ranks.{out_short, in_short, sweep_short}
 use Rattle.slnf_run.specs.Images.{stand_as}
 use Rattle.slnf_setting.specs.Bound.{most_at}

@@ -8,12 +8,13 @@ use Rattle.slnf_base.specs.declared.packets.Proto.TheVariants.{Tcp, Udp}
 use Rattle.slnf_base.specs.declared.plans.Pool.{Pool}
 use Rattle.slnf_access.specs.Machines.{Stand, Flies}
 use Rattle.slnf_run.specs.Setting.{Actor, Era, actors_of, own_base}
+use Rattle.slnf_box.specs.Pools.{port_count, has_pair, nat_of}
 use Rattle.slnf_nat.specs.Flights.{SweepPort, NatFlight, Sweep}
 use Rattle.slnf_nat.specs.Leaks.{IsSweepOf}
 use Rattle.slnf_nat.specs.LeaksNothing.{IsSweepItem}
 use Rattle.slnf_flight.specs.declared.lanes.Lane.{Lane}
 use Rattle.slnf_flight.specs.Begins.{begins_of}
-use Rattle.slnf_nat.specs.Pools.{port_count, has_pair, nat_of, nat_starts, pool_port, sweep_item}
+use Rattle.slnf_nat.specs.Starts.{nat_starts, pool_port, sweep_item}
 use Rattle.slnf_flight.specs.NatPlan.{nat_sweeps}
 use Rattle.slnf_setting.proofs.Beginning.{begins_in_sweep}
 use Rattle.slnf_nat.proofs.PacketEnds.{item_sweeps}

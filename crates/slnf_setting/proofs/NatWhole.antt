@@ -11,9 +11,11 @@ use Rattle.slnf_run.specs.Setting.{Setting, own_base}
 use Rattle.slnf_run.specs.Images.{IsSceneImage}
 use Rattle.slnf_run.specs.OneBox.{IsSound, IsOneBoxWhole}
 use Rattle.slnf_run.proofs.LanePosts.{actor_at}
+use Rattle.slnf_box.specs.NatBox.{NatArrival, nat_box}
+use Rattle.slnf_box.specs.Pools.{port_count, nat_of}
 use Rattle.slnf_nat.specs.Flights.{NatFlight}
 use Rattle.slnf_nat.specs.Machine.{nat_machine}
-use Rattle.slnf_nat.specs.NatBox.{NatArrival, nat_box, IsSameFlows}
+use Rattle.slnf_nat.specs.StoredFlows.{IsSameFlows}
 use Rattle.slnf_nat.specs.NatScene.{nat_scene}
 use Rattle.slnf_nat.specs.Given.{IsNatList}
 use Rattle.slnf_nat.specs.LeaksNothing.{IsNatSetting, LeaksNothing}
@@ -28,7 +30,7 @@ use Rattle.slnf_run.specs.Cases.{case_setting}
 use Rattle.slnf_flight.specs.Begins.{begins_of}
 use Rattle.slnf_plan.specs.declared.plan.FunctionPlan.TheVariants.{Nat}
 use Rattle.slnf_setting.proofs.PlanFits.{PlanFits, plan_is_nat}
-use Rattle.slnf_nat.specs.Pools.{port_count, nat_of, nat_starts}
+use Rattle.slnf_nat.specs.Starts.{nat_starts}
 use Rattle.slnf_flight.specs.NatPlan.{nat_sweeps}
 use Rattle.slnf_flight.specs.PlanSetting.{nat_own, nat_case, nat_arrival_of, setting_with}
 use Rattle.slnf_setting.specs.OneBoxOfPlan.{any_nat_box}

@@ -26,7 +26,7 @@ use Rattle.slnf_flight.specs.Actors.{instance_actor, sweep_actors, era_of_epoch,
 use Rattle.slnf_flight.specs.declared.flights.AnyFlight.TheVariants.{Nat as NatFlies, Firewall as FwFlies, Balancer as LbFlies}
 use Rattle.slnf_run.specs.Cases.{start_as}
 use Rattle.slnf_flight.specs.Begins.{no_sweeps}
-use Rattle.slnf_nat.specs.Pools.{nat_starts, sweep_item}
+use Rattle.slnf_nat.specs.Starts.{nat_starts, sweep_item}
 use Rattle.slnf_flight.specs.NatPlan.{nat_sweeps}
 use Rattle.slnf_flight.specs.FwPlan.{policy_with, fw_starts}
 use Rattle.slnf_flight.specs.LbPlan.{lb_starts}

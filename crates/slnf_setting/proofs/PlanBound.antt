@@ -10,13 +10,14 @@ use Rattle.slnf_run.specs.Scene.{own_of}
 use Rattle.slnf_run.specs.Keeps.{HasPaths}
 use Rattle.slnf_run.specs.Images.{stand_as}
 use Rattle.slnf_access.specs.Machines.{Stand, Flies, Ends, IsPath}
-use Rattle.slnf_fw.specs.Packets.{Policy}
+use Rattle.slnf_box.specs.Pools.{nat_of, port_count}
+use Rattle.slnf_box.specs.declared.policies.Policy.{Policy}
 use Rattle.slnf_fw.specs.Flight.{Flying as FwFlying}
 use Rattle.slnf_fw.specs.Machine.{fw_machine}
 use Rattle.slnf_flight.specs.declared.lanes.Lane.{Lane}
 use Rattle.slnf_flight.specs.Actors.{eras_of}
 use Rattle.slnf_flight.specs.Begins.{begins_of, no_sweeps}
-use Rattle.slnf_nat.specs.Pools.{nat_of, nat_starts, port_count}
+use Rattle.slnf_nat.specs.Starts.{nat_starts}
 use Rattle.slnf_flight.specs.NatPlan.{nat_sweeps}
 use Rattle.slnf_flight.specs.FwPlan.{policy_with, fw_starts}
 use Rattle.slnf_flight.specs.LbPlan.{lb_starts}

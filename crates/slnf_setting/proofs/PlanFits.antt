@@ -9,8 +9,8 @@ use Rattle.slnf_plan.specs.declared.plan.FunctionPlan.TheVariants.{Nat}
 use Rattle.slnf_plan.specs.declared.plan.Epoch.{Epoch}
 use Rattle.slnf_plan.specs.declared.plan.Plan.{Plan}
 use Rattle.slnf_plan.specs.Ranges.{has_instances, has_lanes_apart}
+use Rattle.slnf_box.specs.Pools.{IsPool, nat_of}
 use Rattle.slnf_nat.specs.Given.{IsNat}
-use Rattle.slnf_nat.specs.Pools.{IsPool, nat_of}
 use Rattle.slnf_nat.proofs.PoolPairs.{pool_is_nat}
 use Rattle.slnf_setting.specs.Fits.{has_types}
 

@@ -10,6 +10,7 @@ use Rattle.slnf_plan.specs.declared.plan.Plan.{Plan}
 use Rattle.slnf_run.specs.Run.{IsRun}
 use Rattle.slnf_run.specs.Setting.{Setting, own_base}
 use Rattle.slnf_run.specs.Visits.{decision_at}
+use Rattle.slnf_box.specs.Pools.{nat_of}
 use Rattle.slnf_nat.specs.declared.flights.OutState.TheVariants.{Release}
 use Rattle.slnf_nat.specs.Flights.{Out}
 use Rattle.slnf_nat.specs.Given.{IsNatList}
@@ -20,7 +21,6 @@ use Rattle.slnf_flight.specs.declared.flights.AnyFlight.TheVariants.{Nat as NatF
 use Rattle.slnf_flight.specs.Flights.{Arrival}
 use Rattle.slnf_run.specs.Cases.{case_scene, case_setting}
 use Rattle.slnf_setting.specs.Fits.{has_types}
-use Rattle.slnf_nat.specs.Pools.{nat_of}
 use Rattle.slnf_setting.specs.NatRuns.{NatRunsWell}
 use Rattle.slnf_flight.specs.PlanSetting.{nat_own, nat_case, scene_of, sweep_items_of, setting_with, setting_of}
 use Rattle.slnf_run.proofs.CaseStands.{IsOwnDecision, case_flies, case_decision}

@@ -7,12 +7,12 @@ use Rattle.slnf_plan.specs.declared.plan.FunctionPlan.TheVariants.{Nat, Firewall
 use Rattle.slnf_plan.specs.declared.plan.Epoch.{Epoch}
 use Rattle.slnf_plan.specs.declared.plan.Plan.{Plan}
 use Rattle.slnf_run.specs.Run.{IsRun}
+use Rattle.slnf_box.specs.Pools.{nat_of}
 use Rattle.slnf_nat.specs.Given.{IsNatList}
 use Rattle.slnf_flight.specs.declared.lanes.Lane.{Lane}
 use Rattle.slnf_flight.specs.Actors.{eras_of}
 use Rattle.slnf_flight.specs.Begins.{begins_of, no_sweeps}
 use Rattle.slnf_setting.specs.Fits.{has_types}
-use Rattle.slnf_nat.specs.Pools.{nat_of}
 use Rattle.slnf_flight.specs.LbPlan.{lb_starts}
 use Rattle.slnf_flight.specs.PlanSetting.{lb_own, lb_case, scene_of, sweep_items_of, setting_with, setting_of}
 use Rattle.slnf_setting.specs.Pairs.{KeepsPairs}

@@ -26,15 +26,16 @@ use Rattle.slnf_run.specs.Boxes.{Box, content_after, IsExplained}
 use Rattle.slnf_run.specs.Run.{IsRun}
 use Rattle.slnf_run.specs.Tables.{number_in}
 use Rattle.slnf_access.proofs.Versions.{found_there}
-use Rattle.slnf_fw.specs.declared.flights.Tracked.{Tracked}
-use Rattle.slnf_fw.specs.Conns.{tracked_number, tracked_of}
-use Rattle.slnf_fw.specs.Box.{Conns, IsSameConns}
+use Rattle.slnf_box.specs.FwBox.{Conns}
+use Rattle.slnf_box.specs.LbBox.{Pins}
+use Rattle.slnf_box.specs.Pools.{nat_of}
+use Rattle.slnf_box.specs.declared.choices.Tracked.{Tracked}
+use Rattle.slnf_fw.specs.Conns.{tracked_number, tracked_of, IsSameConns}
 use Rattle.slnf_fw.proofs.Keys.{tracked_read}
-use Rattle.slnf_lb.specs.Box.{Pins, backend_in, IsSameMap}
+use Rattle.slnf_lb.specs.StoredPins.{backend_in, IsSameMap}
 use Rattle.slnf_flight.specs.declared.lanes.Lane.{Lane}
 use Rattle.slnf_flight.specs.Actors.{eras_of}
 use Rattle.slnf_setting.specs.Fits.{has_types}
-use Rattle.slnf_nat.specs.Pools.{nat_of}
 use Rattle.slnf_flight.specs.FwPlan.{policy_with}
 use Rattle.slnf_flight.specs.PlanSetting.{scene_of, sweep_items_of, setting_with, setting_of}
 use Rattle.slnf_setting.specs.OneBoxOfPlan.{any_fw_box, any_lb_box}

@@ -15,12 +15,12 @@ use Rattle.slnf_run.specs.Images.{stand_as}
 use Rattle.slnf_run.specs.Setting.{Setting}
 use Rattle.slnf_run.specs.Run.{IsRun}
 use Rattle.slnf_run.specs.OneBox.{IsSound}
+use Rattle.slnf_box.specs.Pools.{nat_of}
 use Rattle.slnf_nat.specs.LeaksNothing.{LeaksNothing}
 use Rattle.slnf_flight.specs.declared.lanes.Lane.{Lane}
 use Rattle.slnf_flight.specs.declared.flights.AnyFlight.{AnyFlight}
 use Rattle.slnf_flight.specs.declared.flights.AnyFlight.TheVariants.{Nat as NatFlies, Firewall as FwFlies, Balancer as LbFlies}
 use Rattle.slnf_flight.specs.Flights.{Arrival}
-use Rattle.slnf_nat.specs.Pools.{nat_of}
 use Rattle.slnf_flight.specs.FwPlan.{policy_with}
 use Rattle.slnf_flight.specs.PlanSetting.{nat_own, fw_own, lb_own, nat_case, fw_case, lb_case, scene_of, sweep_items_of, setting_with, setting_of}
 use Rattle.slnf_setting.specs.Fits.{has_types}

@@ -15,15 +15,16 @@ use Rattle.slnf_plan.specs.declared.plan.Plan.{Plan}
 use Rattle.slnf_run.proofs.NextAccess.{same_flight}
 use Rattle.slnf_run.specs.Setting.{Actor, Era, actors_of, is_on}
 use Rattle.slnf_run.specs.Images.{stand_as}
+use Rattle.slnf_box.specs.Packets.{crosses}
+use Rattle.slnf_box.specs.Pools.{is_outbound, is_inbound}
+use Rattle.slnf_box.specs.Services.{is_forward, is_return}
 use Rattle.slnf_nat.specs.declared.flights.OutState.TheVariants.{Look}
 use Rattle.slnf_nat.specs.declared.flights.InState.TheVariants.{LookPort}
 use Rattle.slnf_nat.specs.Flights.{NatFlight, Out, In}
 use Rattle.slnf_nat.specs.NatScene.{packet_of}
 use Rattle.slnf_fw.specs.Flight.{Flying as FwFlying}
 use Rattle.slnf_fw.specs.declared.flights.FwState.TheVariants.{Look as FwLook}
-use Rattle.slnf_fw.specs.Packets.{crosses}
 use Rattle.slnf_lb.specs.Flight.{Flying as LbFlying}
-use Rattle.slnf_lb.specs.Machine.{is_forward, is_return}
 use Rattle.slnf_flight.specs.declared.lanes.Taken.{Taken}
 use Rattle.slnf_flight.specs.declared.lanes.Taken.TheVariants.{Seen, Bad}
 use Rattle.slnf_flight.specs.declared.lanes.Lane.{Lane}
@@ -33,7 +34,7 @@ use Rattle.slnf_flight.specs.Actors.{eras_of}
 use Rattle.slnf_flight.specs.Begins.{begins_of, no_sweeps}
 use Rattle.slnf_flight.specs.declared.flights.AnyFlight.{AnyFlight}
 use Rattle.slnf_flight.specs.declared.flights.AnyFlight.TheVariants.{Nat as NatFlies, Firewall as FwFlies, Balancer as LbFlies}
-use Rattle.slnf_nat.specs.Pools.{is_outbound, is_inbound, nat_starts}
+use Rattle.slnf_nat.specs.Starts.{nat_starts}
 use Rattle.slnf_flight.specs.NatPlan.{nat_sweeps}
 use Rattle.slnf_flight.specs.FwPlan.{policy_with, fw_starts}
 use Rattle.slnf_flight.specs.LbPlan.{lb_starts}

@@ -7,7 +7,7 @@ use Rattle.slnf_run.specs.Setting.{Actor, Era, Setting, is_on}
 use Rattle.slnf_run.specs.Cases.{viewed}
 use Rattle.slnf_run.specs.Parts.{Offer, part_of, offers_of, taken_of, at_lane, taken_on, places_after, Post, posts_from, posts_of, offers_at, batch_of}
 use Rattle.slnf_run.specs.Run.{AllEnded, EarlierEnded, IsDone, IsRun}
-use Rattle.slnf_nat.specs.Machine.{Nat}
+use Rattle.slnf_box.specs.Nat.{Nat}
 use Rattle.slnf_nat.specs.LeaksNothing.{IsSweepAt, IsFinishedAt, LeaksNothing}
 
 module _ {G A B : Type 0} (view : B → A) (s : Setting G B) where

@@ -8,12 +8,12 @@ use Rattle.slnf_plan.specs.declared.plan.FunctionPlan.TheVariants.{Nat, Firewall
 use Rattle.std.specs.List.{AllByRecursion}
 use Rattle.slnf_run.specs.Scene.{own_of}
 use Rattle.slnf_run.specs.Items.{Item, is_of_items, is_other_on, items_of, sum_over, EachItem}
+use Rattle.slnf_box.specs.Pools.{port_count}
 use Rattle.slnf_nat.specs.Flights.{Out, In, Sweep}
 use Rattle.slnf_fw.specs.Machine.{packet_key}
 use Rattle.slnf_fw.specs.Bound.{FailuresShow}
 use Rattle.slnf_flight.specs.declared.flights.AnyFlight.{AnyFlight}
 use Rattle.slnf_flight.specs.declared.flights.AnyFlight.TheVariants.{Nat as NatFlies, Firewall as FwFlies, Balancer as LbFlies}
-use Rattle.slnf_nat.specs.Pools.{port_count}
 use Rattle.slnf_flight.specs.FwPlan.{policy_with}
 use Rattle.slnf_run.specs.Setting.{Actor, Era, Setting, actors_of, total_of, sweeps_in}
 

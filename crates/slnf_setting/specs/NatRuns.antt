@@ -9,9 +9,9 @@ use Rattle.slnf_access.specs.declared.requests.Reply.TheVariants.{Done}
 use Rattle.slnf_access.specs.Machines.{Flies}
 use Rattle.slnf_run.specs.Scene.{Scene, own_of, stand_of}
 use Rattle.slnf_run.specs.Visits.{Decision, decision_at}
+use Rattle.slnf_box.specs.Nat.{Nat}
 use Rattle.slnf_nat.specs.declared.flights.OutState.TheVariants.{Look, Release}
 use Rattle.slnf_nat.specs.Flights.{Out}
-use Rattle.slnf_nat.specs.Machine.{Nat}
 use Rattle.slnf_nat.specs.Starved.{IsStarved}
 use Rattle.slnf_flight.specs.declared.flights.AnyFlight.{AnyFlight}
 use Rattle.slnf_flight.specs.declared.flights.AnyFlight.TheVariants.{Nat as NatFlies}

@@ -7,18 +7,20 @@ use Rattle.slnf_plan.specs.declared.plan.Plan.{Plan}
 use Rattle.slnf_run.specs.Boxes.{Box}
 use Rattle.slnf_run.specs.Setting.{Setting}
 use Rattle.slnf_run.specs.OneBox.{IsOneBoxWhole}
-use Rattle.slnf_nat.specs.NatBox.{Flow, nat_box, IsSameFlows}
-use Rattle.slnf_nat.specs.Machine.{Nat}
-use Rattle.slnf_fw.specs.Packets.{Policy}
-use Rattle.slnf_fw.specs.Box.{Conns, fw_box, IsSameConns}
+use Rattle.slnf_box.specs.FwBox.{Conns, fw_box}
+use Rattle.slnf_box.specs.LbBox.{Pins, lb_box}
+use Rattle.slnf_box.specs.Nat.{Nat}
+use Rattle.slnf_box.specs.NatBox.{Flow, nat_box}
+use Rattle.slnf_box.specs.Pools.{nat_of}
+use Rattle.slnf_box.specs.declared.policies.Policy.{Policy}
+use Rattle.slnf_nat.specs.StoredFlows.{IsSameFlows}
+use Rattle.slnf_fw.specs.Conns.{IsSameConns}
 use Rattle.slnf_base.specs.declared.plans.Service.{Service}
-use Rattle.slnf_lb.specs.Box.{Pins, IsSameMap}
-use Rattle.slnf_lb.specs.Scene.{lb_box}
+use Rattle.slnf_lb.specs.StoredPins.{IsSameMap}
 use Rattle.slnf_flight.specs.declared.lanes.Lane.{Lane}
 use Rattle.slnf_flight.specs.declared.flights.AnyFlight.{AnyFlight}
 use Rattle.slnf_flight.specs.Flights.{Arrival}
 use Rattle.slnf_run.specs.Cases.{box_through}
-use Rattle.slnf_nat.specs.Pools.{nat_of}
 use Rattle.slnf_flight.specs.FwPlan.{policy_with}
 use Rattle.slnf_flight.specs.PlanSetting.{nat_arrival_of, lb_arrival_of, setting_of}
 

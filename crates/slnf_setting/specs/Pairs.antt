@@ -7,7 +7,7 @@ use Rattle.slnf_access.specs.Map.{empty, map_after}
 use Rattle.slnf_base.specs.Ranges.{IsPair}
 use Rattle.slnf_plan.specs.declared.plan.FunctionPlan.{FunctionPlan}
 use Rattle.slnf_plan.specs.declared.plan.FunctionPlan.TheVariants.{Nat, Firewall, Balancer}
-use Rattle.slnf_nat.specs.NatBox.{flow_at}
+use Rattle.slnf_nat.specs.StoredFlows.{flow_at}
 use Rattle.slnf_nat.specs.Laws.{FlowsApart}
 use Rattle.slnf_lb.specs.Pins.{PinsStay}
 

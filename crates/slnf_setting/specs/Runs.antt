@@ -6,7 +6,7 @@ use Rattle.slnf_plan.specs.declared.plan.FunctionPlan.TheVariants.{Nat, Firewall
 use Rattle.slnf_plan.specs.declared.plan.Plan.{Plan}
 use Rattle.slnf_run.specs.Setting.{Setting}
 use Rattle.slnf_run.specs.Run.{IsRun}
-use Rattle.slnf_nat.specs.Pools.{nat_of}
+use Rattle.slnf_box.specs.Pools.{nat_of}
 use Rattle.slnf_nat.specs.LeaksNothing.{LeaksNothing}
 use Rattle.slnf_flight.specs.declared.lanes.Lane.{Lane}
 use Rattle.slnf_flight.specs.declared.flights.AnyFlight.{AnyFlight}

@@ -7,9 +7,11 @@ use Rattle.slnf_base.specs.declared.packets.Proto.TheVariants.{Tcp, Udp}
 use Rattle.slnf_base.specs.declared.plans.Pool.{Pool}
 use Rattle.slnf_access.specs.declared.requests.Entry.{Entry}
 use Rattle.slnf_access.specs.Machines.{Flies, Ends, IsPath}
+use Rattle.slnf_box.specs.Nat.{Nat}
+use Rattle.slnf_box.specs.Pools.{nat_of, port_count}
 use Rattle.slnf_nat.specs.Flights.{SweepState, SweepPort, Sweep}
-use Rattle.slnf_nat.specs.Machine.{Nat, nat_machine}
-use Rattle.slnf_nat.specs.Pools.{nat_of, port_count, pool_port, sweep_item}
+use Rattle.slnf_nat.specs.Machine.{nat_machine}
+use Rattle.slnf_nat.specs.Starts.{pool_port, sweep_item}
 
 -- a port's flight makes no more than three accesses
 abbrev IsShort : Type 0

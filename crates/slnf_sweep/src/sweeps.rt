@@ -2,15 +2,16 @@ ghost use Rattle.std.specs.Prelude.{◌≡◌, ◌<◌, ◌*◌};
 ghost use Rattle.slnf_access.specs.Machines.{Flies};
 ghost use Rattle.slnf_access.specs.Map.{CanReply};
 ghost use Rattle.slnf_keys.specs.Values.{claim_of, flow_to_of};
+ghost use Rattle.slnf_box.specs.Pools.{nat_of, port_count};
 ghost use Rattle.slnf_nat.specs.Machine.{flow_key, port_key, names, swept, nat_asks, nat_goes};
-ghost use Rattle.slnf_nat.specs.Pools.{nat_of, port_count, pool_port, sweep_item};
+ghost use Rattle.slnf_nat.specs.Starts.{pool_port, sweep_item};
 ghost use Rattle.slnf_sweep.specs.Standing.{item_stands};
 
 use crate::flights::{PortState, SweepFlight};
 use slnf_access::{Key, Reply, Request, Value};
 use slnf_base::{Pair, Pool, Proto};
+use slnf_box::port_count;
 use slnf_keys::{Claim, FlowKey, FlowTo, PortKey};
-use slnf_nat::port_count;
 
 /// A sweep of a pool in an epoch with this base, the least incarnation of the epoch. Its items are the pool's ports:
 /// those of TCP in order, and then those of UDP.

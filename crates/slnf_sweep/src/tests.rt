@@ -1,5 +1,5 @@
 ghost use Rattle.std.specs.Prelude.{◌<◌, ◌*◌};
-ghost use Rattle.slnf_nat.specs.Pools.{port_count};
+ghost use Rattle.slnf_box.specs.Pools.{port_count};
 
 use crate::Sweep;
 use slnf_access::{Entry, Key, ListStore, Reply, Request, Value};

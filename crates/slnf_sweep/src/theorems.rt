@@ -3,8 +3,9 @@ ghost use Rattle.std.specs.Prelude.{◌≤◌, ℕ, List, length};
 ghost use Rattle.slnf_base.specs.declared.plans.Pool.{Pool};
 ghost use Rattle.slnf_access.specs.declared.requests.Entry.{Entry};
 ghost use Rattle.slnf_access.specs.Machines.{IsPath};
+ghost use Rattle.slnf_box.specs.Pools.{nat_of};
 ghost use Rattle.slnf_nat.specs.Machine.{nat_machine};
-ghost use Rattle.slnf_nat.specs.Pools.{nat_of, sweep_item};
+ghost use Rattle.slnf_nat.specs.Starts.{sweep_item};
 
 use slnf_nat::nat_is_bounded;
 

@@ -1,6 +1,6 @@
 use Rattle.std.proofs.Common.{ap, ◌∙◌}
 use Rattle.slnf_run.specs.Tables.{with_value}
-use Rattle.slnf_fw.specs.Box.{is_same_conn}
+use Rattle.slnf_box.specs.FwBox.{is_same_conn}
 use Rattle.slnf_box.specs.Conns.{conn_at}
 use Rattle.slnf_box.proofs.Links.{put_conns}
 use Rattle.slnf_box.proofs.conns.ConnTable.put.Goals as goal

@@ -1,5 +1,5 @@
 use Rattle.std.proofs.Common.{ap, ◌∙◌}
-use Rattle.slnf_lb.specs.Box.{with_pin}
+use Rattle.slnf_box.specs.LbBox.{with_pin}
 use Rattle.slnf_box.specs.Pairs.{pair_at}
 use Rattle.slnf_box.proofs.Ends.{put_pairs}
 use Rattle.slnf_box.proofs.pairs.PairTable.put.Goals as goal

@@ -1,5 +1,5 @@
 use Rattle.std.proofs.Common.{◌≡◌, IfOk, ap, ◌∙◌, subst}
-use Rattle.slnf_nat.specs.NatBox.{pair_of}
+use Rattle.slnf_box.specs.NatBox.{pair_of}
 use Rattle.slnf_box.specs.Tables.{table_verdict, table_pairs, table_owners}
 use Rattle.slnf_box.specs.Translator.{owners_of}
 use Rattle.slnf_box.proofs.Flows.{both_ok, verdict_alike, pairs_alike, owners_alike}

@@ -1,7 +1,6 @@
 -- What the firewall sees of a packet, in its machine and in the box alike: its direction, its connection's key, its
 -- kind, its side of the connection, and whether the rules permit it.
-use Rattle.std.specs.Prelude.{ℕ, Bool, true, false, not, ◌&&◌, ◌||◌, List}
-use Rattle.slnf_base.specs.declared.addresses.Prefix.{Prefix}
+use Rattle.std.specs.Prelude.{ℕ, Bool, true, false, not, ◌&&◌, ◌||◌}
 use Rattle.slnf_base.specs.declared.packets.Proto.{Proto}
 use Rattle.slnf_base.specs.declared.packets.Proto.TheVariants.{Tcp, Udp}
 use Rattle.slnf_base.specs.declared.packets.Packet.{Packet}
@@ -11,16 +10,11 @@ use Rattle.slnf_fw_table.specs.declared.connections.Kind.{Kind}
 use Rattle.slnf_fw_table.specs.declared.connections.Kind.TheVariants.{Datagram}
 use Rattle.slnf_fw_table.specs.declared.connections.Side.{Side}
 use Rattle.slnf_fw_table.specs.declared.connections.Side.TheVariants.{Opener, Other}
-use Rattle.slnf_fw_table.specs.declared.rules.Rule.{Rule}
 use Rattle.slnf_fw_table.specs.declared.rules.Opening.{Opening}
 use Rattle.slnf_fw_table.specs.Kinds.{kind_of_flags}
 use Rattle.slnf_fw_table.specs.Rules.{is_permitted}
 use Rattle.slnf_keys.specs.declared.keys.ConnKey.{ConnKey}
-
--- A firewall's policy: the addresses on its inside, and its rules.
-pub record Policy : Type 0 where
-  pub inside : Prefix
-  pub rules : List Rule
+use Rattle.slnf_box.specs.declared.policies.Policy.{Policy}
 
 -- the packet goes out
 abbrev pub is_out : Policy → Packet → Bool

@@ -6,17 +6,15 @@ use Rattle.slnf_base.specs.declared.packets.Reason.TheVariants.{Neither}
 use Rattle.slnf_base.specs.declared.packets.Verdict.{Verdict}
 use Rattle.slnf_base.specs.declared.packets.Verdict.TheVariants.{Emit, Dropped}
 use Rattle.slnf_base.specs.Equal.{is_same_pair, is_same_proto}
-use Rattle.slnf_access.specs.Map.{Cells}
 use Rattle.slnf_keys.specs.declared.keys.ConnKey.{ConnKey}
-use Rattle.slnf_keys.specs.Keys.{conn_key_number, IsConnKey}
 use Rattle.slnf_run.specs.Boxes.{Box}
-use Rattle.slnf_run.specs.Tables.{IsTable, with_value}
-use Rattle.slnf_fw.specs.declared.flights.Tracked.{Tracked}
-use Rattle.slnf_fw.specs.declared.choices.Choice.{Choice}
-use Rattle.slnf_fw.specs.declared.choices.Choice.TheVariants.{Refuses, Passes, Writes}
-use Rattle.slnf_fw.specs.Conns.{tracked_number}
-use Rattle.slnf_fw.specs.Packets.{Policy, crosses, conn_of_packet}
-use Rattle.slnf_fw.specs.Choices.{choice_of}
+use Rattle.slnf_run.specs.Tables.{with_value}
+use Rattle.slnf_box.specs.Choices.{choice_of}
+use Rattle.slnf_box.specs.Packets.{crosses, conn_of_packet}
+use Rattle.slnf_box.specs.declared.choices.Choice.{Choice}
+use Rattle.slnf_box.specs.declared.choices.Choice.TheVariants.{Refuses, Passes, Writes}
+use Rattle.slnf_box.specs.declared.choices.Tracked.{Tracked}
+use Rattle.slnf_box.specs.declared.policies.Policy.{Policy}
 
 -- what is kept of each connection
 abbrev pub Conns : Type 0
@@ -51,7 +49,3 @@ fw_box policy = record {
   verdict = λ conns packet. choice_verdict (fw_choice policy conns packet);
   next = λ conns packet. choice_conns conns (conn_of_packet policy packet) (fw_choice policy conns packet);
 }
-
--- the box has the connections of the store's map
-abbrev pub IsSameConns : Conns → Cells → Type 0
-IsSameConns = IsTable conn_key_number IsConnKey tracked_number

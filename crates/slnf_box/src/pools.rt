@@ -1,5 +1,5 @@
 ghost use Rattle.std.specs.Prelude.{◌≡◌, ◌+◌, ◌-◌, ◌<◌, ◌≤◌, ◌^◌, IsTrue};
-ghost use Rattle.slnf_nat.specs.Pools.{candidate, port_count, has_pair, is_outbound, is_inbound};
+ghost use Rattle.slnf_box.specs.Pools.{candidate, port_count, has_pair, is_outbound, is_inbound};
 
 use slnf_base::{Packet, Pair, Pool};
 
@@ -40,4 +40,11 @@ pub fn is_inbound(pool: &Pool, packet: &Packet) -> bool
     ensures { result ≡ is_inbound pool.now packet.now }
 {
     packet.dest.addr == pool.outside && !pool.inside.contains(packet.source.addr)
+}
+
+/// Whether the pair is one of the pool's.
+pub(crate) fn has_pair(pool: &Pool, pair: Pair) -> bool
+    ensures { result ≡ has_pair pool.now pair }
+{
+    pair.addr == pool.outside && pool.low <= pair.port && pair.port <= pool.high
 }

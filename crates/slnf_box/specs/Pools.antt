@@ -1,16 +1,10 @@
--- The NAT of a pool: its directions, its candidates, and how its packets and its sweeps' items begin.
-use Rattle.std.specs.Prelude.{ℕ, ◌+◌, ◌-◌, ◌*◌, ◌%◌, ◌^◌, ◌<◌, Bool, not, ◌&&◌, ◌==◌, nat_lt, nat_le, if◌then◌else◌, None}
+-- The NAT of a pool: its directions and its candidates.
+use Rattle.std.specs.Prelude.{ℕ, ◌+◌, ◌-◌, ◌%◌, ◌^◌, ◌<◌, Bool, not, ◌&&◌, ◌==◌, nat_le}
 use Rattle.slnf_base.specs.declared.addresses.Pair.{Pair}
-use Rattle.slnf_base.specs.declared.packets.Proto.TheVariants.{Tcp, Udp}
 use Rattle.slnf_base.specs.declared.packets.Packet.{Packet}
-use Rattle.slnf_base.specs.declared.packets.Reason.TheVariants.{Neither}
 use Rattle.slnf_base.specs.declared.plans.Pool.{Pool}
 use Rattle.slnf_base.specs.Prefix.{is_inside}
-use Rattle.slnf_access.specs.declared.functions.Start.{Start}
-use Rattle.slnf_access.specs.declared.functions.Start.TheVariants.{Go as StartGo, Over as StartOver}
-use Rattle.slnf_access.specs.Machines.{Stand, Flies, Ends}
-use Rattle.slnf_nat.specs.Flights.{Look, LookPort, SweepPort, NatFlight, Out, In, Sweep}
-use Rattle.slnf_nat.specs.Machine.{Nat}
+use Rattle.slnf_box.specs.Nat.{Nat}
 
 -- the packet goes out: from the inside, to neither the inside nor the outside address
 abbrev pub is_outbound : Pool → Packet → Bool
@@ -52,21 +46,3 @@ nat_of pool = record {
   ports = port_count pool;
   candidate = λ proto inside place. candidate pool inside place;
 }
-
--- how a packet begins
-abbrev pub nat_starts : Pool → ℕ → ℕ → Packet → Start NatFlight
-nat_starts pool incarnation number packet =
-    if is_outbound pool packet then StartGo (Out Look incarnation packet)
-    else (if is_inbound pool packet then StartGo (In LookPort packet) else StartOver Neither)
-
--- a pair of the pool, by its place
-abbrev pub pool_port : Pool → ℕ → Pair
-pool_port pool place = record { addr = pool.outside; port = pool.low + place }
-
--- how a sweep's item begins: the TCP ports in order, and then the UDP ports
-abbrev pub sweep_item : Pool → ℕ → ℕ → Stand NatFlight
-sweep_item pool base item =
-    if nat_lt item (port_count pool) then Flies (Sweep SweepPort Tcp (pool_port pool item) base)
-    else (if nat_lt item (2 * port_count pool)
-    then Flies (Sweep SweepPort Udp (pool_port pool (item - port_count pool)) base)
-    else Ends None)

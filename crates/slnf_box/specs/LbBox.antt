@@ -1,6 +1,5 @@
 -- The ordinary balancer: one map from clients to backends.
-use Rattle.std.specs.Prelude.{◌≡◌, ◌&&◌, if◌then◌else◌, Option, Some, None}
-use Rattle.std.specs.Option.{option_map, option_and_then}
+use Rattle.std.specs.Prelude.{◌&&◌, if◌then◌else◌, Option, Some, None}
 use Rattle.slnf_base.specs.declared.addresses.Pair.{Pair}
 use Rattle.slnf_base.specs.declared.packets.Proto.{Proto}
 use Rattle.slnf_base.specs.declared.packets.Packet.{Packet}
@@ -10,12 +9,8 @@ use Rattle.slnf_base.specs.declared.packets.Verdict.{Verdict}
 use Rattle.slnf_base.specs.declared.packets.Verdict.TheVariants.{Emit, Dropped}
 use Rattle.slnf_base.specs.declared.plans.Service.{Service}
 use Rattle.slnf_base.specs.Equal.{is_same_pair, is_same_proto}
-use Rattle.slnf_access.specs.declared.requests.Held.{Held}
-use Rattle.slnf_access.specs.Map.{Cells}
-use Rattle.slnf_base.specs.Ranges.{IsPair}
-use Rattle.slnf_keys.specs.Keys.{pin_key_number}
-use Rattle.slnf_keys.specs.Values.{pin_of}
-use Rattle.slnf_lb.specs.Machine.{is_forward, is_return}
+use Rattle.slnf_run.specs.Boxes.{Box}
+use Rattle.slnf_box.specs.Services.{is_forward, is_return}
 
 -- the backend of each client, by protocol
 abbrev pub Pins : Type 0
@@ -56,15 +51,15 @@ lb_next service pins packet choice =
     then with_pin pins packet.proto packet.source (backend_or (pins packet.proto packet.source) choice)
     else pins
 
--- the backend in what the store has at a key
-abbrev pub backend_in : Option Held → Option Pair
-backend_in held = option_map (λ pin. pin.backend) (option_and_then (λ there. pin_of there.value.0) held)
+-- What the box sees: a packet, and the backend that is chosen for it.
+pub record LbArrival : Type 0 where
+  pub packet : Packet
+  pub choice : Pair
 
--- the client's backend in the store's map
-abbrev pub pin_at : Cells → Proto → Pair → Option Pair
-pin_at cells proto client = backend_in (cells (pin_key_number (record { proto = proto; client = client })))
-
--- The box has the pins of the store's map, and what the map has at a client's key is a pin.
-pub record IsSameMap (kept : Pins) (cells : Cells) : Type 0 where
-  pub agrees : (proto : Proto) (client : Pair) → IsPair client → kept proto client ≡ pin_at cells proto client
-  pub whole : (proto : Proto) (client : Pair) → IsPair client → pin_at cells proto client ≡ None → cells (pin_key_number (record { proto = proto; client = client })) ≡ None
+-- the box
+abbrev pub lb_box : Service → Box LbArrival Pins
+lb_box service = record {
+  empty = no_pins;
+  verdict = λ pins arrival. lb_verdict service pins arrival.packet arrival.choice;
+  next = λ pins arrival. lb_next service pins arrival.packet arrival.choice;
+}

@@ -9,10 +9,11 @@ use Rattle.slnf_fw_table.specs.declared.connections.Kind.TheVariants.{Syn, SynAc
 use Rattle.slnf_fw_table.specs.declared.connections.Move.{Move}
 use Rattle.slnf_fw_table.specs.declared.connections.Move.TheVariants.{Stay, To, Reopen, Deny}
 use Rattle.slnf_fw_table.specs.Transitions.{move_of}
-use Rattle.slnf_fw.specs.declared.flights.Tracked.{Tracked}
-use Rattle.slnf_fw.specs.declared.choices.Choice.{Choice}
-use Rattle.slnf_fw.specs.declared.choices.Choice.TheVariants.{Refuses, Passes, Writes}
-use Rattle.slnf_fw.specs.Packets.{Policy, from_outside, kind_of_packet, may_open, side_of}
+use Rattle.slnf_box.specs.Packets.{from_outside, kind_of_packet, may_open, side_of}
+use Rattle.slnf_box.specs.declared.choices.Choice.{Choice}
+use Rattle.slnf_box.specs.declared.choices.Choice.TheVariants.{Refuses, Passes, Writes}
+use Rattle.slnf_box.specs.declared.choices.Tracked.{Tracked}
+use Rattle.slnf_box.specs.declared.policies.Policy.{Policy}
 
 -- a connection that is opened where the rules permit it
 abbrev pub opened : Bool → Tracked → Choice
