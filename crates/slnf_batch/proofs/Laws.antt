@@ -1,11 +1,12 @@
 -- The laws of cuts and orders that crates above cite.
-use Rattle.std.proofs.Common.{◌≡◌, ℕ, zero, suc, ◌+◌, ◌<◌, ◌≤◌, ◌==◌, Bool, true, false, not, ◌&&◌, subst, if◌then◌else◌, ◌⊎◌, Option, Some, None, List, [], ◌∷◌, length, get_or, take, refl, sym, ap, ◌∙◌, inl, inr, arith, ne_eqb}
+use Rattle.std.proofs.Common.{◌≡◌, ℕ, zero, suc, ◌+◌, ◌<◌, ◌≤◌, ◌==◌, Bool, true, false, not, ◌&&◌, subst, if◌then◌else◌, ◌⊎◌, Option, Some, None, List, [], ◌∷◌, length, map, get_or, take, refl, sym, ap, ◌∙◌, inl, inr, arith, ne_eqb}
 use Rattle.std.specs.Prelude.{All}
 use Rattle.std.proofs.lemmas.Bool.{cases_lt, lt-ltb}
 use Rattle.std.proofs.lemmas.Bool.Decides.{nat_tests}
-use Rattle.std.proofs.lemmas.List.{get_or-take, length-take-le, take_more, get_or_default}
+use Rattle.std.proofs.lemmas.List.{length-map, get_or-map, get_or-take, length-take-le, take_more, get_or_default}
 use Rattle.std.proofs.lemmas.List.Quantifiers.{all_pairs_push}
-use Rattle.std.proofs.lemmas.List.Sorted.{sorted_far, ranks_by}
+use Rattle.std.proofs.lemmas.List.Sorted.{sorted_far, ranks_by, All-permutation, IsPermutation-map}
+use Rattle.std.proofs.lemmas.List.Elements.{All-map}
 use Rattle.std.proofs.lemmas.Map.Keys.{IsDistinct-from_apart, IsDistinct-IsPermutation, apart_from_distinct}
 use Rattle.std.proofs.lemmas.Cmp.{then_total, on_total, nat_cmp_total}
 use Rattle.std.specs.Cmp.{IsTotalOrder}
@@ -192,17 +193,58 @@ turn_total = then_total (on_total (λ (p : ℕ × ℕ). p.0) nat_cmp_total) (on_
 not_behind : (s t m n : ℕ) → is_lt (turn_cmp (t, n) (s, m)) ≡ false → (m == n) ≡ false → (s < t) ⊎ ((s ≡ t) × (m < n))
 not_behind s t m n order items = grind (arith, nat_tests)
 
--- asks of distinct items in the order of a sort by (shard, item) ascend
-pub sorted_ascends : (shards : ℕ) (xs ys : List Ask) → IsPermutation xs ys → ItemsDiffer xs →
-    IsSortedByKey (λ ask. (shard_of shards ask, ask.item)) turn_cmp ys → Ascends shards ys
-sorted_ascends shards xs ys same differ sorted = λ i j d before inside.
-    let key : Ask → ℕ × ℕ = λ ask. (shard_of shards ask, ask.item) in
-    let alike : Ask → Ask → Bool = λ a b. a.item == b.item in
-    let apart = IsDistinct-from_apart alike xs (λ i j d before inside. ne_eqb _ _ (differ i j d before inside)) in
-    let distinct = IsDistinct-IsPermutation alike (λ a b. grind (arith, nat_tests)) xs ys same apart in
-    let items = apart_from_distinct alike ys i j d distinct before inside in
-    let order = sorted_far _ (ranks_by turn_total key) ys sorted i j d (omega arith) inside in
-    not_behind _ _ _ _ order items
+-- each ask stands beside its shard
+abbrev IsPlaced : ℕ → ℕ × Ask → Type 0
+IsPlaced shards of_shard = of_shard.0 ≡ shard_of shards of_shard.1
+
+all_placed : (shards : ℕ) (asks : List Ask) (placed : List (ℕ × Ask)) →
+    IsPermutation (map (λ ask. (shard_of shards ask, ask)) asks) placed → All (IsPlaced shards) placed
+all_placed shards asks placed same =
+    All-permutation (IsPlaced shards) _ placed same
+    (All-map (IsPlaced shards) (λ ask. (shard_of shards ask, ask)) asks (λ k d inside. refl))
+
+without_shards : (shards : ℕ) (asks : List Ask) →
+    map (λ (of_shard : ℕ × Ask). of_shard.1) (map (λ ask. (shard_of shards ask, ask)) asks) ≡ asks
+without_shards shards [] = refl
+without_shards shards (ask ∷ asks) = ap (λ rest. ask ∷ rest) (without_shards shards asks)
+
+-- asks that are placed and change places are the same without their shards
+pub placed_same : (shards : ℕ) (asks : List Ask) (placed : List (ℕ × Ask)) →
+    IsPermutation (map (λ ask. (shard_of shards ask, ask)) asks) placed →
+    IsPermutation asks (map (λ (of_shard : ℕ × Ask). of_shard.1) placed)
+placed_same shards asks placed same =
+    subst (λ from. IsPermutation from (map (λ (of_shard : ℕ × Ask). of_shard.1) placed)) (without_shards shards asks)
+    (IsPermutation-map (λ (of_shard : ℕ × Ask). of_shard.1) _ placed same)
+
+-- and where a sort put them in order, they ascend
+pub placed_ascend : (shards : ℕ) (asks : List Ask) (placed : List (ℕ × Ask)) →
+    IsPermutation (map (λ ask. (shard_of shards ask, ask)) asks) placed → ItemsDiffer asks →
+    IsSortedByKey (λ (of_shard : ℕ × Ask). (of_shard.0, of_shard.1.item)) turn_cmp placed →
+    Ascends shards (map (λ (of_shard : ℕ × Ask). of_shard.1) placed)
+placed_ascend shards asks placed same differ sorted = λ i j d before inside.
+    let ask_in : ℕ × Ask → Ask = λ of_shard. of_shard.1 in
+    let inner : j < length placed = omega (arith, inside, length-map placed ask_in) in
+    let at : (k : ℕ) → k < length placed → get_or (map ask_in placed) k d ≡ (get_or placed k (0, d)).1 =
+    λ k within. get_or-map ask_in placed k (0, d) d within in
+    let beside = all_placed shards asks placed same in
+    let order = sorted_far _ (ranks_by turn_total (λ (of_shard : ℕ × Ask). (of_shard.0, of_shard.1.item))) placed sorted
+    i j (0, d) (omega arith) inner in
+    let items = ne_eqb _ _ (differ_after asks _ (placed_same shards asks placed same) differ i j d before inside) in
+    rw (at i (omega arith), at j inner)
+    (by_shard shards (get_or placed i (0, d)) (get_or placed j (0, d)) (beside i (0, d) (omega arith)) (beside j (0, d) inner)
+    (not_behind _ _ _ _ order (rw (← at i (omega arith), ← at j inner) items)))
+  where
+    differ_after : (xs ys : List Ask) → IsPermutation xs ys → ItemsDiffer xs → ItemsDiffer ys
+    differ_after xs ys same differ = λ i j d before inside.
+        let alike : Ask → Ask → Bool = λ a b. a.item == b.item in
+        let apart = IsDistinct-from_apart alike xs (λ i j d before inside. ne_eqb _ _ (differ i j d before inside)) in
+        let distinct = IsDistinct-IsPermutation alike (λ a b. grind (arith, nat_tests)) xs ys same apart in
+        let items = apart_from_distinct alike ys i j d distinct before inside in
+        λ e. grind (arith, nat_tests)
+
+    by_shard : (shards : ℕ) (p q : ℕ × Ask) → IsPlaced shards p → IsPlaced shards q →
+        (p.0 < q.0) ⊎ ((p.0 ≡ q.0) × (p.1.item < q.1.item)) → GoesBefore shards p.1 q.1
+    by_shard shards p q ep eq h = rw (← ep, ← eq) h
 
 -- the first ask comes before all others, and these ascend
 pub Ascends-head : (shards : ℕ) (ask : Ask) (asks : List Ask) → Ascends shards (ask ∷ asks) →

@@ -105,7 +105,7 @@ impl Bucket {
         let key = request.key().0;
         let held = self.held.get(&key).copied();
         self.entries.reserve(1)?;
-        hold(&mut self.held, key, request.leaves(stamp, held))?;
+        hold(&mut self.held, key, held, request.leaves(stamp, held))?;
         let reply = request.reply(stamp, held);
         let entry = Entry {
             stamp,
@@ -159,18 +159,24 @@ impl Bucket {
 
 ghost use Rattle.slnf_access.specs.Map.{key_of};
 
-/// Makes the map have this at the key, and what it had at each other key.
+/// Makes the map have this at the key, and what it had at each other key. Where it has this there already, the map's
+/// memory isn't written to, so that other processors keep their copies of it.
 fn hold(
     held: &mut HashMap<u128, Held, RandomState>,
     key: u128,
+    before: Option<Held>,
     left: Option<Held>,
 ) -> Result<(), AllocError>
+    requires before { before ≡ get nat_eq held.old key }
     ensures ok { OnOk result
         ((other : ℕ) → get nat_eq held.new other ≡ (if key == other then left else get nat_eq held.old other)) }
     ensures err { OnErr result (IsUnchanged held.old held.new) }
     ensures room { 0 < spare held.old → IsOk result }
     ensures spare { spare held.old ≤ spare held.new + 1 }
 {
+    if left == before {
+        return Ok(());
+    }
     match left {
         Some(left) => {
             held.insert(key, left)?;

@@ -7,7 +7,9 @@ use slnf_base::NoMemory;
 use std::alloc::Global;
 
 /// Merges the shards' histories, of which the one at `k` is shard `k`'s, into one list in strict order of
-/// (stamp, shard). It takes one copy of the entries, and n log n steps for n of them.
+/// (stamp, shard). It takes the memory of the first history, frees each other one when its entries are moved, and takes
+/// half as much again while it sorts. The sort finds the histories' runs: for `n` entries of `m` histories it takes some
+/// n log m steps.
 pub fn merge(alloc: Global, histories: Vec<Vec<Entry>>) -> Result<Vec<Entry>, NoMemory>
     requires { AreHistories 0 (map (λ history. history.items) histories.items) }
     ensures same { IfOk result
@@ -16,12 +18,26 @@ pub fn merge(alloc: Global, histories: Vec<Vec<Entry>>) -> Result<Vec<Entry>, No
     ensures legal { IfOk result
         (λ merged. MergesLegally (map (λ history. history.items) histories.items) merged.items) }
 {
-    let mut merged = Vec::with_capacity(alloc, count(&histories))?;
-    for history in &histories {
-        merged.extend_from_slice(history.as_slice())?;
-    }
-    merged.sort_unstable_by_key(|entry| (entry.stamp, entry.shard));
+    let mut merged = joined(alloc, histories)?;
+    merged.sort_by_key(|entry| (entry.stamp, entry.shard))?;
     Ok(merged)
+}
+
+/// All entries, history by history.
+fn joined(alloc: Global, histories: Vec<Vec<Entry>>) -> Result<Vec<Entry>, NoMemory>
+    ensures { IfOk result (λ all. all.items ≡ all_of (map (λ history. history.items) histories.items)) }
+{
+    let count = count(&histories);
+    let mut rest = histories.into_iter();
+    let mut all = match rest.next() {
+        None => Vec::new(alloc),
+        Some(first) => first,
+    };
+    all.reserve(count.saturating_sub(all.len()))?;
+    for mut history in rest {
+        all.append(&mut history)?;
+    }
+    Ok(all)
 }
 
 /// How many entries the histories have. A count that no memory has room for stands still.

@@ -51,7 +51,7 @@ closed_with shards v hs count h joined kept =
     }
 
 pub closed : (shards : ℕ) (v : View) (bs : List Shard) → length bs ≡ shards
-    → AreLast lines_in place_of places_of shards v bs → AllByRecursion (λ (b : Shard). IsKept b.bucket.kept) bs
+    → AreLast lines_in place_of places_of shards v bs → AllByRecursion (λ (b : Shard). IsKept b.bucket.value.kept) bs
     → AllByRecursion (IsJoined shards) v.joined → AreKept v
     → IsClosed shards v (map entries_in bs)
 closed shards v bs count last kept joined told =

@@ -24,16 +24,16 @@ use Rattle.slnf_store.proofs.Members.{in_left, in_right, in_either, all_append, 
 
 -- the entries of a shard's bucket
 abbrev pub entries_in : Shard → List Entry
-entries_in b = b.bucket.kept.entries
+entries_in b = b.bucket.value.kept.entries
 
 abbrev pub lines_in : Shard → List Line
-lines_in b = map line_of b.bucket.kept.entries
+lines_in b = map line_of b.bucket.value.kept.entries
 
 abbrev pub place_of : Shard → ℕ
-place_of b = b.bucket.kept.shard
+place_of b = b.bucket.value.kept.shard
 
 abbrev pub places_of : Shard → ℕ
-places_of b = b.bucket.kept.shards
+places_of b = b.bucket.value.kept.shards
 
 -- what is known of the history of one shard among so many
 pub record IsHistoryOf (shard shards : ℕ) (v : View) (es : List Entry) : Type 0 where
@@ -64,12 +64,12 @@ rises_within clock end (e ∷ es) r below = let up = r.0 in
     let rest = rises_last e.stamp es r.1 in ((omega arith, omega arith), rises_within e.stamp end es r.1 below)
 
 one_history : (low shards : ℕ) (v : View) (b : Shard) → IsLast lines_in place_of places_of shards v low b
-    → IsKept b.bucket.kept → IsHistoryOf low shards v (entries_in b)
+    → IsKept b.bucket.value.kept → IsHistoryOf low shards v (entries_in b)
 one_history low shards v b l k =
     record {
-      in_place = subst (λ (s : ℕ). IsHistory s (entries_in b)) l.place_is (IsHistory-from_kept b.bucket.kept k);
+      in_place = subst (λ (s : ℕ). IsHistory s (entries_in b)) l.place_is (IsHistory-from_kept b.bucket.value.kept k);
       own = subst (λ (n : ℕ). InShards n (entries_in b)) l.places_are
-          (in_shards b.bucket.kept.shard b.bucket.kept.shards (entries_in b) k.own);
+          (in_shards b.bucket.value.kept.shard b.bucket.value.kept.shards (entries_in b) k.own);
       legal = k.legal;
       parts = l.parts;
       seen = all_map (λ (x : Joined). Begins (seen_of low x.seen) (lines_in b))
@@ -81,7 +81,7 @@ one_history low shards v b l k =
 
 pub from_last : (low shards : ℕ) (v : View) (bs : List Shard)
     → ((k : ℕ) (b : Shard) → slice_get bs k ≡ Some b → IsLast lines_in place_of places_of shards v (low + k) b)
-    → AllByRecursion (λ (b : Shard). IsKept b.bucket.kept) bs → AreHistoriesOf low shards v (map entries_in bs)
+    → AllByRecursion (λ (b : Shard). IsKept b.bucket.value.kept) bs → AreHistoriesOf low shards v (map entries_in bs)
 from_last low shards v [] f kept = tt
 from_last low shards v (b ∷ bs) f kept =
     let here : low + 0 ≡ low = omega arith in (

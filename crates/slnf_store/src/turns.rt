@@ -10,7 +10,7 @@ use crate::batches::make_all;
 use crate::gates::Gate;
 use crate::shards::Shard;
 use slnf_access::{Ask, Reply};
-use slnf_bucket::BucketError;
+use slnf_bucket::{Bucket, BucketError};
 use slnf_turns::{Pass, Turns};
 use std::sync::Wait;
 
@@ -53,12 +53,10 @@ pub(crate) fn one_turn<R: Wait, G: Gate>(
 {
     let mut held = turns.take(rt, pass, shard);
     gate.inside(shard);
+    let bucket: &mut Bucket = &mut held.value.bucket;
     // Its clause says that what the bucket keeps is a legal history, up to its clock.
-    let _ = held.value.bucket.clock();
-    let answer = held
-        .value
-        .bucket
-        .access(caller.incarnation, ask.item, caller.clock, ask.request);
+    let _ = bucket.clock();
+    let answer = bucket.access(caller.incarnation, ask.item, caller.clock, ask.request);
     turns.give(pass, held);
     answer
 }

@@ -70,7 +70,7 @@ module _ {B : Type 0} (lines : B → List Line) (place places : B → ℕ) where
         queue = record {
           wide = wide ∙ ap (λ (m : ℕ). 32 * m) (sym n);
           tickets = λ k _. blank (32 * k);
-          serving = λ k _. blank (32 * k + 16);
+          serving = λ k _. blank (32 * k + 1);
           queued = λ k _. refl;
           few = omega arith;
           owned = λ k t _ _ high. absurd (omega arith);

@@ -91,9 +91,9 @@ module _ {B : Type 0} (lines : B → List Line) (place places : B → ℕ) where
         (refl, λ j e. let same : k ≡ j = omega arith in subst (λ (i : ℕ). (u : ℕ) × (w ≡ staged me.0 (Waits i u)) × (get_or s.words (32 * k) 0 ≡ u % 2 ^ 64)) same (t, refl, r.queue.tickets k inside)),
       )
 
-  pub looks : (n id : ℕ) (me : M) (k t : ℕ) → me.0.stage ≡ Waits k t → Allows R n id me (32 * k + 16) (λ x. x) (looked (step n (32 * k + 16) 0 0 none) me)
+  pub looks : (n id : ℕ) (me : M) (k t : ℕ) → me.0.stage ≡ Waits k t → Allows R n id me (32 * k + 1) (λ x. x) (looked (step n (32 * k + 1) 0 0 none) me)
   looks n id me k t waits s r deep at fits =
-      let a = r.account in let i : ℕ = 32 * k + 16 in let x : ℕ = get_or s.words i 0 in let lives : living me.0 ≡ 1 = ap living_at waits in
+      let a = r.account in let i : ℕ = 32 * k + 1 in let x : ℕ = get_or s.words i 0 in let lives : living me.0 ≡ 1 = ap living_at waits in
       let known : Knows a (length s.homes) id (Waits k t) = subst (Knows a (length s.homes) id) waits (r.queue.stages id me.0 at) in
       dite (ℕ_discrete x (t % 18446744073709551616))
       (λ hit. let near = near_tickets lines place places a s r.queue id k t me.0 at (subst (HasTicket k t) (sym waits) (refl, refl)) in
@@ -113,9 +113,9 @@ module _ {B : Type 0} (lines : B → List Line) (place places : B → ℕ) where
         (refl, λ j u is. let same : (k, t) ≡ (j, u) = ap (ticket_or 0) (sym waits ∙ is) in ((λ hit. absurd (miss (hit ∙ ap (λ (z : ℕ × ℕ). z.1 % 18446744073709551616) (sym same)))), λ _. refl)),
       ))
 
-  pub opens : (n id : ℕ) (me : M) (k t : ℕ) → me.0.stage ≡ Turn k t → Allows R n id me (32 * k + 16) (λ x. x) (opened lines place places (step n (32 * k + 16) 0 0 none) me)
+  pub opens : (n id : ℕ) (me : M) (k t : ℕ) → me.0.stage ≡ Turn k t → Allows R n id me (32 * k + 1) (λ x. x) (opened lines place places (step n (32 * k + 1) 0 0 none) me)
   opens n id me k t turn s r deep at fits =
-      let a = r.account in let i : ℕ = 32 * k + 16 in let lives : living me.0 ≡ 1 = ap living_at turn in
+      let a = r.account in let i : ℕ = 32 * k + 1 in let lives : living me.0 ≡ 1 = ap living_at turn in
       let known : Knows a (length s.homes) id (Turn k t) = subst (Knows a (length s.homes) id) turn (r.queue.stages id me.0 at) in
       let near = known.0.0 in let lies = r.queue.home k near (at_home lines place places a s r.queue id k t me.0 at turn) in let b : B = lies.0 in let w : View = after_open me.0 k t (lines b) in (
         w,
@@ -134,9 +134,9 @@ module _ {B : Type 0} (lines : B → List Line) (place places : B → ℕ) where
       )
 
   pub writes : (n id : ℕ) (me : M) (k t : ℕ) (base more : List Line) (b : B) → me.0.stage ≡ Open k t base [] → me.1 ≡ (k, Some b) ∷ [] → lines b ≡ base ++ more → AllOf me.0.number more
-      → Allows R n id me (32 * k + 16) (λ x. x) (wrote lines (step n (32 * k + 16) 0 0 none) me)
+      → Allows R n id me (32 * k + 1) (λ x. x) (wrote lines (step n (32 * k + 1) 0 0 none) me)
   writes n id me k t base more b is_open held grown of_me s r deep at fits =
-      let a = r.account in let i : ℕ = 32 * k + 16 in let lives : living me.0 ≡ 1 = ap living_at is_open in let w : View = staged me.0 (Open k t base more) in
+      let a = r.account in let i : ℕ = 32 * k + 1 in let lives : living me.0 ≡ 1 = ap living_at is_open in let w : View = staged me.0 (Open k t base more) in
       let known : Knows a (length s.homes) id (Open k t base []) = subst (Knows a (length s.homes) id) is_open (r.queue.stages id me.0 at) in
       let of_id : AllOf id more = subst (λ (j : ℕ). AllOf j more) (r.tale.numbers id me.0 at lives) of_me in (
         w,
@@ -155,7 +155,7 @@ module _ {B : Type 0} (lines : B → List Line) (place places : B → ℕ) where
       )
 
   raises_from : (n id : ℕ) (v : View) (k t : ℕ) (base more : List Line) (b : B) → v.stage ≡ Open k t base more → place b ≡ k → places b ≡ n → lines b ≡ base ++ more
-      → Allows R n id (v, (k, Some b) ∷ []) (32 * k + 16) (λ x. (x + 1) % 2 ^ 64) (raised (step n (32 * k + 16) 1 0 none) (v, (k, Some b) ∷ []))
+      → Allows R n id (v, (k, Some b) ∷ []) (32 * k + 1) (λ x. (x + 1) % 2 ^ 64) (raised (step n (32 * k + 1) 1 0 none) (v, (k, Some b) ∷ []))
   raises_from n id v k t base more b is_open is_place is_places is_lines s r deep at fits =
       let a = r.account in let lives : living v ≡ 1 = ap living_at is_open in let w : View = after_raise v k base more in let a' = with_raise a k id base more in
       let known : Knows a (length s.homes) id (Open k t base more) = subst (Knows a (length s.homes) id) is_open (r.queue.stages id v at) in
@@ -179,9 +179,9 @@ module _ {B : Type 0} (lines : B → List Line) (place places : B → ℕ) where
       )
 
   pub raises : (n id : ℕ) (me : M) (k t : ℕ) (base more : List Line) (b : B) → me.0.stage ≡ Open k t base more → me.1 ≡ (k, Some b) ∷ [] → place b ≡ k → places b ≡ n → lines b ≡ base ++ more
-      → Allows R n id me (32 * k + 16) (λ x. (x + 1) % 2 ^ 64) (raised (step n (32 * k + 16) 1 0 none) me)
+      → Allows R n id me (32 * k + 1) (λ x. (x + 1) % 2 ^ 64) (raised (step n (32 * k + 1) 1 0 none) me)
   raises n id me k t base more b is_open held is_place is_places is_lines =
-      subst (λ (cs : List (ℕ × Option B)). Allows R n id (me.0, cs) (32 * k + 16) (λ x. (x + 1) % 2 ^ 64) (raised (step n (32 * k + 16) 1 0 none) (me.0, cs))) (sym held)
+      subst (λ (cs : List (ℕ × Option B)). Allows R n id (me.0, cs) (32 * k + 1) (λ x. (x + 1) % 2 ^ 64) (raised (step n (32 * k + 1) 1 0 none) (me.0, cs))) (sym held)
       (raises_from n id me.0 k t base more b is_open is_place is_places is_lines)
 
   -- the seat of the root is the first one

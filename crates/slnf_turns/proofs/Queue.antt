@@ -105,7 +105,7 @@ module _ {B : Type 0} (lines : B → List Line) (place places : B → ℕ) where
   moved : (a a' : Account) (s : St) (q : Q a s) (words' : List ℕ) (homes' : Homes) (me : ℕ) (v w : View) → get_elem? s.views me ≡ some v
       → length words' ≡ length s.words → length homes' ≡ length s.homes
       → ((k : ℕ) → k < length s.homes → get_or words' (32 * k) 0 ≡ a'.drawn k % 2 ^ 64)
-      → ((k : ℕ) → k < length s.homes → get_or words' (32 * k + 16) 0 ≡ a'.served k % 2 ^ 64)
+      → ((k : ℕ) → k < length s.homes → get_or words' (32 * k + 1) 0 ≡ a'.served k % 2 ^ 64)
       → ((k : ℕ) → k < length s.homes → a'.drawn k + queues k v ≡ a'.served k + (total (queues k) s.views + queues k w))
       → Knows a' (length s.homes) me w.stage
       → ((j : ℕ) (x : View) → j ≢ me → get_elem? s.views j ≡ some x → Knows a (length s.homes) j x.stage → Knows a' (length s.homes) j x.stage)
@@ -179,7 +179,7 @@ module _ {B : Type 0} (lines : B → List Line) (place places : B → ℕ) where
       (λ e. let p = put_here a.drawn k (a.drawn k + 1) j e in subst (λ (i : ℕ). get_or (set s.words (32 * k) y) (32 * i) 0 ≡ put a.drawn k (a.drawn k + 1) j % 18446744073709551616) (sym e)
       (get_or-set_same s.words (32 * k) y 0 (omega arith) ∙ (let g : y ≡ (a.drawn k + 1) % 18446744073709551616 = omega arith in g) ∙ ap (λ (z : ℕ). z % 18446744073709551616) (sym p)))
       (λ other. get_or-set_other s.words (32 * k) (32 * j) y 0 (λ e. other (omega arith)) ∙ (q.tickets j l ∙ ap (λ (z : ℕ). z % 18446744073709551616) (sym (put_else a.drawn k (a.drawn k + 1) j other)))))
-      (λ j l. get_or-set_other s.words (32 * k) (32 * j + 16) y 0 (λ e. omega arith) ∙ q.serving j l)
+      (λ j l. get_or-set_other s.words (32 * k) (32 * j + 1) y 0 (λ e. omega arith) ∙ q.serving j l)
       (λ j l. let h = q.queued j l in let none_yet : queues j v ≡ 0 = ap (queues_at j) free in dite (ℕ_discrete j k)
       (λ e. let p = put_here a.drawn k (a.drawn k + 1) j e in let c = ap a.drawn e in let one = if_eq {A = ℕ} k j 1 0 (sym e) in omega arith)
       (λ other. let p = put_else a.drawn k (a.drawn k + 1) j other in let no_one = if_ne {A = ℕ} k j 1 0 (λ e. other (sym e)) in omega arith))
@@ -267,19 +267,19 @@ module _ {B : Type 0} (lines : B → List Line) (place places : B → ℕ) where
 
   pub queue_raises : (a : Account) (s : St) (q : Q a s) (me k t : ℕ) (base more : List Line) (v : View) (b : B) → get_elem? s.views me ≡ some v → v.stage ≡ Open k t base more
       → place b ≡ k → places b ≡ length s.homes → lines b ≡ base ++ more
-      → Q (with_raise a k me base more) record { words = set s.words (32 * k + 16) ((get_or s.words (32 * k + 16) 0 + 1) % 2 ^ 64); homes = set s.homes k (some (Some b)); views = set s.views me (after_raise v k base more) }
+      → Q (with_raise a k me base more) record { words = set s.words (32 * k + 1) ((get_or s.words (32 * k + 1) 0 + 1) % 2 ^ 64); homes = set s.homes k (some (Some b)); views = set s.views me (after_raise v k base more) }
   queue_raises a s q me k t base more v b at opened is_place is_places is_lines =
       let known : Knows a (length s.homes) me (Open k t base more) = subst (Knows a (length s.homes) me) opened (q.stages me v at) in
       let near = known.0.0 in let w : View = after_raise v k base more in let homes' : Homes = set s.homes k (some (Some b)) in let a' = with_raise a k me base more in
-      let c : ℕ = 32 * k + 16 in let x : ℕ = get_or s.words c 0 in let y : ℕ = (x + 1) % 18446744073709551616 in let wide = q.wide in
+      let c : ℕ = 32 * k + 1 in let x : ℕ = get_or s.words c 0 in let y : ℕ = (x + 1) % 18446744073709551616 in let wide = q.wide in
       let found : x ≡ a.served k % 18446744073709551616 = q.serving k near in
       let mine : HasTicket k (a.served k) v.stage = subst (HasTicket k (a.served k)) (sym opened) (refl, known.1) in
       moved a a' s q (set s.words c y) homes' me v w at (length-set s.words c y) (length-set s.homes k (some (Some b)))
       (λ j l. get_or-set_other s.words c (32 * j) y 0 (λ e. omega arith) ∙ q.tickets j l)
       (λ j l. dite (ℕ_discrete j k)
-      (λ e. let p = put_here a.served k (a.served k + 1) j e in subst (λ (i : ℕ). get_or (set s.words c y) (32 * i + 16) 0 ≡ put a.served k (a.served k + 1) j % 18446744073709551616) (sym e)
+      (λ e. let p = put_here a.served k (a.served k + 1) j e in subst (λ (i : ℕ). get_or (set s.words c y) (32 * i + 1) 0 ≡ put a.served k (a.served k + 1) j % 18446744073709551616) (sym e)
       (get_or-set_same s.words c y 0 (omega arith) ∙ (let g : y ≡ (a.served k + 1) % 18446744073709551616 = omega arith in g) ∙ ap (λ (z : ℕ). z % 18446744073709551616) (sym p)))
-      (λ other. get_or-set_other s.words c (32 * j + 16) y 0 (λ e. other (omega arith)) ∙ (q.serving j l ∙ ap (λ (z : ℕ). z % 18446744073709551616) (sym (put_else a.served k (a.served k + 1) j other)))))
+      (λ other. get_or-set_other s.words c (32 * j + 1) y 0 (λ e. other (omega arith)) ∙ (q.serving j l ∙ ap (λ (z : ℕ). z % 18446744073709551616) (sym (put_else a.served k (a.served k + 1) j other)))))
       (λ j l. let h = q.queued j l in let e : queues j v ≡ cond (eqb k j) 1 0 = ap (queues_at j) opened in dite (ℕ_discrete j k)
       (λ e'. let p = put_here a.served k (a.served k + 1) j e' in let d = ap a.served e' in let one = if_eq {A = ℕ} k j 1 0 (sym e') in omega arith)
       (λ other. let p = put_else a.served k (a.served k + 1) j other in let no_one = if_ne {A = ℕ} k j 1 0 (λ z. other (sym z)) in omega arith))

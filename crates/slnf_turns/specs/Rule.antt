@@ -92,7 +92,7 @@ module _ {B : Type 0} (lines : B → List Line) (place places : B → ℕ) where
     -- the words count modulo 2 ^ 64
     pub wide : length s.words ≡ 32 * length s.homes
     pub tickets : (k : ℕ) → k < length s.homes → slice_index s.words (32 * k) ≡ a.drawn k % 2 ^ 64
-    pub serving : (k : ℕ) → k < length s.homes → slice_index s.words (32 * k + 16) ≡ a.served k % 2 ^ 64
+    pub serving : (k : ℕ) → k < length s.homes → slice_index s.words (32 * k + 1) ≡ a.served k % 2 ^ 64
     -- as many tickets are out as passes have one
     pub queued : (k : ℕ) → k < length s.homes → a.drawn k ≡ a.served k + total (queues k) s.views
     -- so few passes that words which count modulo 2 ^ 64 tell their tickets apart

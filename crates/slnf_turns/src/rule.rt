@@ -1,6 +1,6 @@
-//! The table under the turns. Word 32 k counts the tickets of shard k that were drawn, word 32 k + 16 those
-//! that were served, and slot k has the shard's value. The two words and those of the next shard lie
-//! 128 bytes apart, so that no two share a cache line.
+//! The table under the turns. Word 32 k counts the tickets of shard k that were drawn, word 32 k + 1 those
+//! that were served, and slot k has the shard's value. The two words lie side by side, so that mostly one cache
+//! line has both, and comes from another processor once a turn. Those of two shards lie 256 bytes apart.
 use crate::chronicles::Chronicle;
 use crate::views::View;
 use atomic_table::{Seat, Shared, TableRule};

@@ -16,12 +16,12 @@ use std::alloc::Global;
 // The history of each shard, in order.
 fn histories_of(alloc: Global, values: Vec<Shard>) -> Result<Vec<Vec<Entry>>, NoMemory>
     ensures entries { IfOk result (λ histories. map (λ history. history.items) histories.items
-        ≡ map (λ value. value.bucket.kept.entries) values.items) }
-    ensures kept { IfOk result (λ histories. AllByRecursion (λ value. IsKept value.bucket.kept) values.items) }
+        ≡ map (λ value. value.bucket.value.kept.entries) values.items) }
+    ensures kept { IfOk result (λ histories. AllByRecursion (λ value. IsKept value.bucket.value.kept) values.items) }
 {
     let mut histories = Vec::with_capacity(alloc, values.len())?;
     for value in values {
-        histories.push(value.bucket.into_history())?;
+        histories.push(Box::into_inner(value.bucket).into_history())?;
     }
     Ok(histories)
 }

@@ -23,7 +23,8 @@ fn empty_buckets(alloc: Global, state: RandomState, shards: u32) -> Result<Vec<S
 {
     let mut values = Vec::with_capacity(alloc, shards as usize)?;
     for shard in 0..shards {
-        let bucket = Bucket::make(alloc, state, shard, shards)?;
+        let empty = Bucket::make(alloc, state, shard, shards)?;
+        let bucket = Box::new(alloc, empty)?;
         values.push(Shard { bucket })?;
     }
     Ok(values)

@@ -39,7 +39,7 @@ fn wait<B: Chronicle, R: Wait>(
 {
     let mut looks = 0;
     for _ in rt.forever() {
-        if top.load::<Look>(place, 32 * shard + 16) == ticket {
+        if top.load::<Look>(place, 32 * shard + 1) == ticket {
             return;
         }
         pause(looks);
@@ -62,7 +62,7 @@ pub(super) fn take_out<B: Chronicle, R: Wait>(
 {
     let ticket = top.fetch_add::<Draw>(place, 32 * shard, 1);
     wait(rt, top, place, shard, ticket);
-    top.load::<Enter>(place, 32 * shard + 16);
+    top.load::<Enter>(place, 32 * shard + 1);
     top.exchange(place, shard, None).unwrap()
 }
 
@@ -94,6 +94,6 @@ pub(super) fn put_in<B: Chronicle>(top: &Top<B>, place: &mut Place<B>, shard: us
         None => {}
         Some(_) => unreachable!(),
     }
-    top.load::<Note>(place, 32 * shard + 16);
-    top.fetch_add::<Raise>(place, 32 * shard + 16, 1);
+    top.load::<Note>(place, 32 * shard + 1);
+    top.fetch_add::<Raise>(place, 32 * shard + 1, 1);
 }

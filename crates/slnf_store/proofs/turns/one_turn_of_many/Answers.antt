@@ -10,16 +10,19 @@ use Rattle.slnf_store.proofs.turns.one_turn_of_many.Goals as goal
 
 pub give-requires-clause-turn : goal.give-requires-clause-turn
 give-requires-clause-turn g c =
-    let kept = c.take-held.result.value.bucket.kept in
+    let kept = c.take-held.result.value.bucket.value.kept in
     let new = c.make_all-answer.new.bucket.kept in
     let r = c.make_all-answer.result in
     let m = view c.take-held.new.pass in
     let t = c.take-held.ensures in
-    let a = c.make_all-answer.ensures in
+    let told = c.make_all-answer.ensures in
+    let was = c.deref_mut.ensures.value in
     let who = c.args.caller.now in
     let asks = c.args.asks.now in
     let es = entries_after kept.entries kept.shard who.incarnation who.clock asks in
-    let grew = grown_with es kept.entries new.entries r a.entries (entries_unchanged r kept new _ _ a.unchanged) in
+    let grew =
+    grown_with es kept.entries new.entries r (rw was at told.entries)
+    (entries_unchanged r kept new _ _ (rw was at told.unchanged)) in
     let number = c.requires.number ∙ sym t.kin.0 in
     gives c.take-held.result.shard c.args.shard kept.entries (made_with es r) new.entries m t.shard grew
     (number_with m.number es r (after_number m.number kept.entries kept.shard who.incarnation who.clock asks number))
@@ -27,7 +30,7 @@ give-requires-clause-turn g c =
 
 pub returns-clause-turn : goal.returns-clause-turn
 returns-clause-turn g c =
-    let kept = c.take-held.result.value.bucket.kept in
+    let kept = c.take-held.result.value.bucket.value.kept in
     let new = c.make_all-answer.new.bucket.kept in
     let r = c.make_all-answer.result in
     let shard = c.args.shard in
@@ -37,25 +40,26 @@ returns-clause-turn g c =
     let v = view c.args.pass.now in
     let w = view c.give.new.pass in
     let t = c.take-held.ensures in
-    let a = c.make_all-answer.ensures in
+    let told = c.make_all-answer.ensures in
+    let was = c.deref_mut.ensures.value in
     let gave = c.give.ensures in
-    let is : IsKept kept = a.kept in
+    let is : IsKept kept = rw was at told.kept in
     let es = entries_after kept.entries shard who.incarnation who.clock asks in
     let here : kept.shard ≡ shard = t.value.0 in
     let grew =
     subst (λ (s : ℕ). OnOk r
-    (new.entries ≡ kept.entries ++ entries_after kept.entries s who.incarnation who.clock asks)) here a.entries in
-    let made = grown_with es kept.entries new.entries r grew (entries_unchanged r kept new _ _ a.unchanged) in
+    (new.entries ≡ kept.entries ++ entries_after kept.entries s who.incarnation who.clock asks)) here (rw was at told.entries) in
+    let made = grown_with es kept.entries new.entries r grew (entries_unchanged r kept new _ _ (rw was at told.unchanged)) in
     let turn : TakesTurn shard kept.entries (made_with es r) v w =
     turned shard c.take-held.result.shard kept.entries (made_with es r) new.entries v (view c.take-held.new.pass) w
     t.shard made t.grown t.seen t.turn t.own t.kin gave.own gave.seen gave.free gave.kin in
     let replies =
     subst (λ (s : ℕ). OnOk r
-    (now ≡ map reply_in (entries_after kept.entries s who.incarnation who.clock asks))) here a.replies in
+    (now ≡ map reply_in (entries_after kept.entries s who.incarnation who.clock asks))) here (rw was at told.replies) in
     let stamp =
     subst (λ (s : ℕ). IfOk r (λ (last : ℕ).
-    last ≡ last_stamp who.clock (entries_after kept.entries s who.incarnation who.clock asks))) here a.stamp in
+    last ≡ last_stamp who.clock (entries_after kept.entries s who.incarnation who.clock asks))) here (rw was at told.stamp) in
     let all =
     answered_all shard who.incarnation who.clock asks v w c.args.replies.now now kept new r is.legal is.clock_is turn
-    replies stamp a.below a.unchanged is.below c.requires.clock a.spent in
+    replies stamp told.below (rw was at told.unchanged) is.below c.requires.clock (rw was at told.spent) in
     (kept.entries, all.0, all.1)

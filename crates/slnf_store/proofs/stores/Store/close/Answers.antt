@@ -19,10 +19,10 @@ entries : Vec Entry Global → List Entry
 entries history = history.items
 
 answered : (shards : ℕ) (v : View) (bs : List Shard) (r : Result (Vec (Vec Entry Global) Global) NoMemory)
-    → (AllByRecursion (λ (b : Shard). IsKept b.bucket.kept) bs → IsClosed shards v (map entries_in bs))
+    → (AllByRecursion (λ (b : Shard). IsKept b.bucket.value.kept) bs → IsClosed shards v (map entries_in bs))
     → IfOk r (λ (hs : Vec (Vec Entry Global) Global). map (λ (h : Vec Entry Global). h.items) hs.items
     ≡ map entries_in bs)
-    → IfOk r (λ (hs : Vec (Vec Entry Global) Global). AllByRecursion (λ (b : Shard). IsKept b.bucket.kept) bs)
+    → IfOk r (λ (hs : Vec (Vec Entry Global) Global). AllByRecursion (λ (b : Shard). IsKept b.bucket.value.kept) bs)
     → IfOk r (λ (hs : Vec (Vec Entry Global) Global). IsClosed shards v
     (map (λ (h : Vec Entry Global). h.items) hs.items))
 answered shards v bs (Ok hs) f same kept = subst (IsClosed shards v) (sym same) (f kept)
