@@ -1,34 +1,39 @@
 -- An epoch of a plan, from its crew to its end.
-use Rattle.std.proofs.Common.{◌≡◌, ℕ, ◌+◌, ◌≤◌, ◌<◌, ◌^◌, Some, List, [], ◌++◌, length, map, slice_get, option_map, refl, ap, ◌∙◌, subst, arith}
+use Rattle.std.proofs.Common.{◌≡◌, ℕ, zero, suc, ◌+◌, ◌≤◌, ◌<◌, ◌^◌, Some, None, List, [], ◌∷◌, ◌++◌, length, map, slice_get, option_map, refl, sym, ap, ◌∙◌, subst, arith}
 use Rattle.std.specs.List.{repeat}
 use Rattle.std.specs.Prelude.{replicate}
 use Rattle.std.proofs.lemmas.List.{length-append, length-map, length-replicate}
-use Rattle.std.proofs.lemmas.Option.{slice_get-map, slice_get_within}
+use Rattle.std.proofs.lemmas.Option.{same_Some, slice_get-map, slice_get_within}
 use Rattle.slnf_base.specs.declared.packets.Verdict.{Verdict}
 use Rattle.slnf_access.specs.declared.requests.Entry.{Entry}
 use Rattle.slnf_plan.specs.declared.plan.Epoch.{Epoch}
 use Rattle.slnf_plan.specs.declared.plan.InstancePlan.{InstancePlan}
+use Rattle.slnf_plan.specs.declared.plan.SweepPlan.{SweepPlan}
+use Rattle.slnf_plan.specs.declared.plan.SweepPlan.TheVariants.{No, Yes}
 use Rattle.slnf_plan.specs.declared.plan.Plan.{Plan}
+use Rattle.slnf_run.specs.Setting.{Actor}
+use Rattle.slnf_run.specs.Jobs.{job_of}
 use Rattle.slnf_run.specs.Made.{greatest_last}
-use Rattle.slnf_run.specs.Parts.{part_of}
+use Rattle.slnf_run.specs.Parts.{part_of, at_lane}
 use Rattle.slnf_run.specs.Scheduled.{usual_way, by_rounds, turns, round}
 use Rattle.slnf_run.specs.SoFar.{IsSoFar}
 use Rattle.slnf_run.proofs.Lists.{slice_get-append_left}
 use Rattle.slnf_shards.proofs.Laws.{is_first_clock}
+use Rattle.slnf_instance.specs.Items.{Workload}
+use Rattle.slnf_instance.specs.Errands.{job_in}
 use Rattle.slnf_instance.specs.Instances.{Acting, StandsBy}
 use Rattle.slnf_flight.specs.declared.flights.AnyFlight.{AnyFlight}
 use Rattle.slnf_flight.specs.declared.functions.AnyFunction.{AnyFunction}
 use Rattle.slnf_flight.specs.declared.lanes.Lane.{Lane}
 use Rattle.slnf_flight.specs.Actors.{instance_actor, sweep_actors, era_of_epoch, eras_of}
-use Rattle.slnf_flight.specs.Functions.{IsFunctionOf}
 use Rattle.slnf_flight.specs.PlanSetting.{setting_of}
-use Rattle.slnf_orch.specs.declared.items.ActorItems.{ActorItems}
+use Rattle.slnf_crew.specs.declared.items.ActorItems.{ActorItems}
+use Rattle.slnf_crew.specs.Errands.{items_work, IsWorkOn, errand_of}
 use Rattle.slnf_orch.specs.Actors.{Stage, at_work, turns_in, AreStanding, AreDone, HasRoom}
-use Rattle.slnf_orch.specs.Hiring.{items_work, AreHired}
+use Rattle.slnf_orch.specs.Hiring.{place_at, AreHired}
 use Rattle.slnf_orch.specs.Ledger.{verdicts_at, places_in, DoStand, given_from}
 use Rattle.slnf_orch.specs.Passing.{IsUnderWay}
 use Rattle.slnf_orch.proofs.Giving.{job_there}
-use Rattle.slnf_orch.proofs.Hired.{HasEpoch, has_epoch, hired_job}
 use Rattle.slnf_orch.proofs.Places.{some_at}
 use Rattle.slnf_orch.proofs.Plain.{nobody_plain}
 use Rattle.slnf_orch.proofs.SettingOut.{stage_of, standing_first, room_first, one_number}
@@ -41,6 +46,24 @@ instance_at epoch k i at =
     slice_get-append_left (map instance_actor epoch.instances) (sweep_actors epoch.sweep) k (instance_actor i)
     (slice_get-map instance_actor epoch.instances k ∙ ap (option_map instance_actor) at)
 
+-- how far the lane of an epoch's actor has come: an instance's own, and a sweep, behind the instances, has none
+pub actor_place : (epoch : Epoch) (places : ℕ → ℕ) (k : ℕ) (actor : Actor) →
+    slice_get (era_of_epoch epoch).actors k ≡ Some actor → at_lane places actor ≡ place_at places epoch.instances k
+actor_place epoch places k actor at = go epoch.instances k at
+  where
+    of_sweep : (sweep : SweepPlan) (k : ℕ) → slice_get (sweep_actors sweep) k ≡ Some actor → at_lane places actor ≡ 0
+    of_sweep No k at = absurd (cc)
+    of_sweep (Yes stop) zero at =
+        ap (at_lane places) (sym (same_Some (record { lane = None; quota = None; stop = stop }) actor at))
+    of_sweep (Yes stop) (suc k) at = absurd (cc)
+
+    go : (instances : List InstancePlan) (k : ℕ) →
+        slice_get (map instance_actor instances ++ sweep_actors epoch.sweep) k ≡ Some actor →
+        at_lane places actor ≡ place_at places instances k
+    go [] k at = of_sweep epoch.sweep k at
+    go (i ∷ instances) zero at = ap (at_lane places) (sym (same_Some (instance_actor i) actor at))
+    go (i ∷ instances) (suc k) at = go instances k at
+
 -- an epoch has no more instances than actors
 pub instances_most : {X : Type 0} (epoch : Epoch) (crew : List X) → length crew ≡ length (era_of_epoch epoch).actors →
     length epoch.instances ≤ length crew
@@ -52,6 +75,13 @@ instances_most epoch crew count =
     length-map epoch.instances instance_actor in
     omega arith
 
+-- the job of each actor of an epoch, by its work and its errand, is its incarnation's
+abbrev pub HaveJobs : Plan → List Lane → AnyFunction → (ℕ → ℕ) → ℕ → Epoch → Type 0
+HaveJobs plan lanes function places base epoch = (k : ℕ) (actor : Actor) (work : Workload AnyFlight) →
+    slice_get (era_of_epoch epoch).actors k ≡ Some actor →
+    IsWorkOn function lanes base (base + k) actor.lane work → job_in work (errand_of plan places actor work.count)
+    ≡ job_of (setting_of plan lanes) (base + k) (at_lane places actor) actor
+
 module _ (plan : Plan) (lanes : List Lane) (number base : ℕ) (epoch : Epoch) (histories : List (List Entry))
     (ledger : List (List Verdict)) (h : IsUnderWay plan lanes number base histories ledger) where
   -- the epoch as its actors see it
@@ -61,22 +91,19 @@ module _ (plan : Plan) (lanes : List Lane) (number base : ℕ) (epoch : Epoch) (
   -- the crew stands before its first access, each actor with the greatest stamp as its clock
   pub crew_stands : (function : AnyFunction) (crew : List (Acting ActorItems AnyFlight)) (clocks : List ℕ)
       (count now : ℕ) → slice_get plan.epochs number ≡ Some epoch →
-      IsFunctionOf plan.function (slice_get plan.epochs number) function →
+      HaveJobs plan lanes function (places_in ledger) base epoch →
       AreHired plan function lanes (places_in ledger) base epoch crew →
       length crew ≡ length (era_of_epoch epoch).actors → count ≡ length crew → clocks ≡ replicate count now →
       now ≡ greatest_last histories →
       AreStanding items_work epoch_stage h.list (at_work base histories crew clocks)
-  crew_stands function crew clocks count now at of hired crew_count count_is clocks_are now_is =
-      let e : HasEpoch plan lanes number base epoch function =
-      has_epoch plan lanes number base epoch function at h.base_is of in
+  crew_stands function crew clocks count now at jobs hired crew_count count_is clocks_are now_is =
       standing_first items_work (setting_of plan lanes) h.list number base (places_in ledger) (era_of_epoch epoch)
-      histories crew clocks h.ready e.base_is (era_there plan number epoch e.at) crew_count
+      histories crew clocks h.ready h.base_is (era_there plan number epoch at) crew_count
       (ap length clocks_are ∙ (length-replicate count now ∙ (count_is ∙ crew_count)))
       (λ k x there. one_number clocks count now clocks_are k x there ∙ now_is) is_first_clock
       (λ k i actor i_at actor_at.
       let w = hired k i actor i_at actor_at in
-      subst (λ job. StandsBy items_work job [] i)
-      (hired_job plan lanes number base epoch function (places_in ledger) e k actor w.work actor_at w.works) w.stands)
+      subst (λ job. StandsBy items_work job [] i) (jobs k actor w.work actor_at w.works) w.stands)
 
   -- and there are stamps for all its accesses
   pub crew_has_room : (crew : List (Acting ActorItems AnyFlight)) (clocks : List ℕ) →

@@ -8,7 +8,7 @@ get-set-own [] k x y h = absurd (cc)
 get-set-own (z ∷ xs) zero x y h = sym (same_Some x y h)
 get-set-own (z ∷ xs) (suc k) x y h = get-set-own xs k x y h
 
--- at each other place what stood there,
+-- and at each other place what stood there
 pub get-set-other : {X : Type 0} (xs : List X) (k n : ℕ) (x y : X) → (n ≡ k → ⊥) →
     slice_get (set xs k x) n ≡ Some y → slice_get xs n ≡ Some y
 get-set-other [] k n x y apart h = h
@@ -16,12 +16,6 @@ get-set-other (z ∷ xs) zero zero x y apart h = absurd (apart refl)
 get-set-other (z ∷ xs) zero (suc n) x y apart h = h
 get-set-other (z ∷ xs) (suc k) zero x y apart h = h
 get-set-other (z ∷ xs) (suc k) (suc n) x y apart h = get-set-other xs k n x y (λ q. apart (ap suc q)) h
-
--- and setting what is there changes nothing
-pub set_same : {X : Type 0} (xs : List X) (k : ℕ) (x : X) → slice_get xs k ≡ Some x → set xs k x ≡ xs
-set_same [] k x h = refl
-set_same (y ∷ xs) zero x h = ap (λ z. z ∷ xs) (sym (same_Some y x h))
-set_same (y ∷ xs) (suc k) x h = ap (λ l. y ∷ l) (set_same xs k x h)
 
 -- a number below the length has an element
 pub some_at : {X : Type 0} (xs : List X) (k : ℕ) → k < length xs → (x : X) × (slice_get xs k ≡ Some x)

@@ -1,59 +1,50 @@
 -- Turns one after another, and rounds.
-use Rattle.std.proofs.Common.{◌≡◌, inl, inr, ℕ, suc, ◌+◌, ◌-◌, ◌*◌, ◌<◌, ◌≤◌, ◌^◌, Bool, true, false, ◌||◌, Some, None, List, [], ◌∷◌, ◌++◌, drop, get_or, length, slice_get, refl, sym, ap, ◌∙◌, subst, arith}
+use Rattle.std.proofs.Common.{◌≡◌, inl, inr, ℕ, zero, suc, ◌+◌, ◌<◌, ◌≤◌, ◌==◌, Bool, true, false, Some, None, List, [], ◌∷◌, ◌++◌, drop, remove, get_or, length, slice_get, refl, sym, ap, ◌∙◌, subst, arith}
 use Rattle.std.proofs.Math.Seq.{drop-cons}
 use Rattle.std.proofs.Math.ListN.{drop_of_length-le}
 use Rattle.std.specs.List.{range_with_len, repeat}
-use Rattle.std.proofs.lemmas.Bool.{cases_eq}
+use Rattle.std.proofs.lemmas.Bool.Decides.{nat_tests}
+use Rattle.std.proofs.lemmas.List.{nil_from_length}
 use Rattle.std.proofs.lemmas.Option.{slice_get_within}
 use Rattle.slnf_access.specs.declared.requests.Entry.{Entry}
 use Rattle.slnf_run.specs.Setting.{Actor, Setting}
 use Rattle.slnf_run.specs.Parts.{at_lane}
 use Rattle.slnf_run.specs.Scheduled.{by_rounds, wanted, with_access, turn_of, turn, round, NobodyWants}
+use Rattle.slnf_run.proofs.Passing.{drop_from}
 use Rattle.slnf_shards.specs.Shards.{spent}
 use Rattle.slnf_instance.specs.Items.{Workload}
 use Rattle.slnf_instance.specs.Instances.{Acting}
-use Rattle.slnf_orch.specs.Actors.{Stage, AtWork, way_in, wanted_at, turn_in, turns_in, NobodyWantsIn, AreStanding, IsTurnAt, IsRound, AreDone, IsIdleAt, AreIdle}
+use Rattle.slnf_orch.specs.Actors.{AreLeft, Stage, AtWork, way_in, wanted_at, turn_in, turns_in, IsEnded, NobodyWantsIn, AreStanding, IsTurnAt, IsRound, AreDone, IsIdleAt, AreIdle}
+use Rattle.slnf_orch.proofs.Live.{all_left, left_weaker, left_still, left_without, none_left}
+use Rattle.slnf_orch.proofs.Standing.{ended_still}
 
--- neither of two, and one of two
-pub neither : (a b : Bool) → (a || b) ≡ false → (a ≡ false) × (b ≡ false)
-neither true b h = absurd (cc)
-neither false b h = (refl, h)
+-- a vector that is empty
+pub none_at_end : {X : Type 0} (xs : List X) (n : ℕ) (empty : Bool) → n ≡ length xs → empty ≡ (n == 0) →
+    empty ≡ true → xs ≡ []
+none_at_end xs n empty len is true_is =
+    let zero : n ≡ 0 = grind (arith, nat_tests) in nil_from_length xs (omega arith)
+
+-- where none is left, all have ended
+pub all_idle : {G F : Type 0} (instances : List (Acting G F)) → AreLeft (IsIdleAt instances) 0 (length instances) [] →
+    AreIdle instances
+all_idle instances h = λ k i there.
+    let inside : k < length instances = slice_get_within instances k i there in
+    none_left (IsIdleAt instances) 0 (length instances) k h (omega arith) (omega arith) i there
 
 -- what a turn more spends
-pub spends_more : (first now next : List (List Entry)) (made moved : Bool) → (made ≡ false → now ≡ first) →
-    (made ≡ true → spent first < spent now) → (moved ≡ false → next ≡ now) →
-    (moved ≡ true → spent now < spent next) → (made || moved) ≡ true → spent first < spent next
-spends_more first now next true true a b c d h =
-    let x : spent first < spent now = b refl in
-    let y : spent now < spent next = d refl in
-    omega arith
-spends_more first now next true false a b c d h = subst (λ l. spent first < spent l) (sym (c refl)) (b refl)
-spends_more first now next false true a b c d h = subst (λ l. spent l < spent next) (a refl) (d refl)
-spends_more first now next false false a b c d h = absurd (cc)
+pub spends_more : (first now next : List (List Entry)) (made : ℕ) → (made ≡ 0 → now ≡ first) →
+    (0 < made → spent first < spent now) → spent now < spent next → spent first < spent next
+spends_more first now next zero kept more turn = subst (λ l. spent l < spent next) (kept refl) turn
+spends_more first now next (suc made) kept more turn =
+    let before : spent first < spent now = more (omega arith) in omega arith
 
-pub most_more : (now next : List (List Entry)) (made moved : Bool) →
-    (made ≡ true → spent now ≤ length now * 2 ^ 62) → (moved ≡ false → next ≡ now) →
-    (moved ≡ true → spent next ≤ length next * 2 ^ 62) → (made || moved) ≡ true → spent next ≤ length next * 2 ^ 62
-most_more now next made true b c d h = d refl
-most_more now next true false b c d h = subst (λ l. spent l ≤ length l * 2 ^ 62) (sym (c refl)) (b refl)
-most_more now next false false b c d h = absurd (cc)
-
--- none of the actors with numbers below this asks anything
-abbrev pub NoneAsks : {G F : Type 0} → List (Acting G F) → ℕ → Type 0
-NoneAsks instances number = (k : ℕ) → k < number → IsIdleAt instances k
-
-pub asks-more : {G F : Type 0} (old new : List (Acting G F)) (number : ℕ) → new ≡ old → NoneAsks old number →
-    IsIdleAt new number → NoneAsks new (number + 1)
-asks-more old new number is h here = λ k l. elim (cases_eq k number) [
-  | inl q ↦ subst (IsIdleAt new) (sym q) here
-  | inr apart ↦ subst (λ instances. IsIdleAt instances k) (sym is) (h k (omega arith))
-]
-
-pub all_idle : {G F : Type 0} (instances : List (Acting G F)) (number : ℕ) → length instances ≤ number →
-    NoneAsks instances number → AreIdle instances
-all_idle instances number l h = λ k i there.
-    let inside : k < length instances = slice_get_within instances k i there in
-    h k (omega arith) i there
+-- what is behind a place of a list that is taken out
+pub drop_remove : {X : Type 0} (xs : List X) (k : ℕ) → k < length xs → drop k (remove xs k) ≡ drop (k + 1) xs
+drop_remove [] k l = absurd (omega arith)
+drop_remove (x ∷ xs) zero l = refl
+drop_remove (x ∷ xs) (suc k) l =
+    let q : suc (k + 1) ≡ suc k + 1 = omega arith in
+    drop_remove xs k (omega arith) ∙ ap (λ n. drop n (x ∷ xs)) q
 
 -- where none of these actors wants an access, nobody does
 nobody : {F A : Type 0} (s : Setting F A) (places : ℕ → ℕ) (m : List Entry) (base : ℕ) (actors : List Actor) →
@@ -87,8 +78,7 @@ module _ {F : Type 0} (stage : Stage F) where
       ap (λ ns. turns_in stage ns m) (sym front)
 
   -- a turn in which nothing is wanted makes nothing
-  idle_turn : (m : List Entry) (number : ℕ) → ((actor : Actor) → slice_get stage.era.actors number ≡ Some actor →
-      wanted_at stage m number actor ≡ None) → turn_in stage m number ≡ m
+  idle_turn : (m : List Entry) (number : ℕ) → IsEnded stage m number → turn_in stage m number ≡ m
   idle_turn m number h = go (slice_get stage.era.actors number) h
     where
       go : (o : _) → ((actor : Actor) → o ≡ Some actor → wanted_at stage m number actor ≡ None) →
@@ -96,20 +86,30 @@ module _ {F : Type 0} (stage : Stage F) where
       go None k = refl
       go (Some actor) k = ap (with_access stage.setting (way_in stage) m (stage.base + number)) (k actor refl)
 
-  -- the actors with numbers below this want nothing
-  abbrev pub NoneWants : List Entry → ℕ → Type 0
-  NoneWants m number = (k : ℕ) (actor : Actor) → k < number → slice_get stage.era.actors k ≡ Some actor →
-      wanted_at stage m k actor ≡ None
+  -- turns of those that have ended make nothing
+  pub skip_turns : (from count : ℕ) (live : List ℕ) (m : List Entry) → AreLeft (IsEnded stage m) from count live →
+      turns_in stage live m ≡ turns_in stage (range_with_len from count) m
+  skip_turns from zero [] m h = refl
+  skip_turns from zero (number ∷ live) m h = absurd h
+  skip_turns from (suc count) [] m h =
+      skip_turns (from + 1) count [] m h.1
+      ∙ ap (turns_in stage (range_with_len (from + 1) count)) (sym (idle_turn m from h.0))
+  skip_turns from (suc count) (number ∷ live) m (inl h) =
+      ap (λ n. turns_in stage live (turn_in stage m n)) (sym h.0)
+      ∙ skip_turns (from + 1) count live (turn_in stage m from)
+      (left_weaker (IsEnded stage m) (IsEnded stage (turn_in stage m from)) (from + 1) count live
+      (λ k l. ended_still stage m k from (λ q. omega arith)) h.1)
+  skip_turns from (suc count) (number ∷ live) m (inr h) =
+      skip_turns (from + 1) count (number ∷ live) m h.1
+      ∙ ap (turns_in stage (range_with_len (from + 1) count)) (sym (idle_turn m from h.0))
 
-  none_wants-more : (m : List Entry) (number : ℕ) → NoneWants m number → ((actor : Actor) →
-      slice_get stage.era.actors number ≡ Some actor → wanted_at stage m number actor ≡ None) →
-      NoneWants m (number + 1)
-  none_wants-more m number h here k actor l there =
-      elim (cases_eq k number) [
-        | inl q ↦ subst (λ n. wanted_at stage m n actor ≡ None) (sym q)
-            (here actor (ap (slice_get stage.era.actors) (sym q) ∙ there))
-        | inr apart ↦ h k actor (omega arith) there
-      ]
+  -- where none is left, nobody wants an access
+  pub nobody_left : (m : List Entry) → AreLeft (IsEnded stage m) 0 (length stage.era.actors) [] →
+      NobodyWantsIn stage m
+  nobody_left m h =
+      nobody stage.setting stage.places m stage.base stage.era.actors (λ k actor there.
+      let inside : k < length stage.era.actors = slice_get_within stage.era.actors k actor there in
+      none_left (IsEnded stage m) 0 (length stage.era.actors) k h (omega arith) (omega arith) actor there)
 
 module _ {G F : Type 0} (work : G → Workload F) (stage : Stage F) (m : List Entry) where
   -- Turns by these numbers are under way: the rest of them makes what all make.
@@ -137,86 +137,116 @@ module _ {G F : Type 0} (work : G → Workload F) (stage : Stage F) (m : List En
       sym (ap (λ ns. turns_in stage ns h.list) (drop_of_length-le numbers l)) ∙ h.left in
       subst (λ list. AreStanding work stage list w) is h.stands
 
-  -- A round is under way: the turns from this number on make what the whole round makes.
-  pub record GoRound (number : ℕ) (w : AtWork G F) (made : Bool) : Type 0 where
+  -- A round is under way: the turns of those that are left from this place on make what the whole round makes.
+  pub record GoRound (place : ℕ) (live : List ℕ) (w : AtWork G F) : Type 0 where
     pub list : List Entry
     pub stands : AreStanding work stage list w
-    pub left : turns_in stage (range_with_len number (length stage.era.actors - number)) list
+    pub rest : turns_in stage (drop place live) list ≡ turns_in stage (round stage.era) m
+    pub left : AreLeft (IsEnded stage list) 0 (length stage.era.actors) live
+
+  pub round-first : (live : List ℕ) (w : AtWork G F) → AreStanding work stage m w →
+      AreLeft (IsEnded stage m) 0 (length stage.era.actors) live → GoRound 0 live w
+  round-first live w stands left = record {
+    list = m;
+    stands = stands;
+    rest = skip_turns stage 0 (length stage.era.actors) live m left;
+    left = left;
+  }
+
+  module _ (place number : ℕ) (live : List ℕ) (w after : AtWork G F) (there : slice_get live place ≡ Some number)
+      (h : GoRound place live w) where
+    -- what a turn leaves of the turns
+    rest_after : turns_in stage (drop (place + 1) live) (turn_in stage h.list number)
         ≡ turns_in stage (round stage.era) m
-    pub idle : made ≡ false → NoneWants stage list number
+    rest_after =
+        let next : suc place ≡ place + 1 = omega arith in
+        ap (λ k. turns_in stage (drop k live) (turn_in stage h.list number)) (sym next)
+        ∙ (ap (λ ns. turns_in stage ns h.list) (sym (drop_from live place number there)) ∙ h.rest)
 
-  pub round-first : (w : AtWork G F) → AreStanding work stage m w → GoRound 0 w false
-  round-first w h =
-      let all : length stage.era.actors - 0 ≡ length stage.era.actors = omega arith in
-      record {
-        list = m;
-        stands = h;
-        left = ap (λ n. turns_in stage (range_with_len 0 n) m) all;
-        idle = λ _ k actor l there. absurd (omega arith);
-      }
+    left_after : AreLeft (IsEnded stage (turn_in stage h.list number)) 0 (length stage.era.actors) live
+    left_after =
+        left_still (IsEnded stage h.list) (IsEnded stage (turn_in stage h.list number)) 0 (length stage.era.actors) live
+        place number there (λ k. ended_still stage h.list k number) h.left
 
-  pub round-next : (number : ℕ) (w after : AtWork G F) (made moved : Bool) → number < length stage.era.actors →
-      GoRound number w made → ((list : List Entry) → AreStanding work stage list w →
-      IsTurnAt work stage list number after moved) → GoRound (number + 1) after (made || moved)
-  round-next number w after made moved l h turn =
-      let one : IsTurnAt work stage h.list number after moved = turn h.list h.stands in
-      let rest : suc (length stage.era.actors - (number + 1)) ≡ length stage.era.actors - number = omega arith in
-      record {
-        list = turn_in stage h.list number;
-        stands = one.stands;
-        left = ap (λ n. turns_in stage (range_with_len number n) h.list) rest ∙ h.left;
-        idle = λ still.
-            let both : (made ≡ false) × (moved ≡ false) = neither made moved still in
-            subst (λ list. NoneWants stage list (number + 1)) (sym (idle_turn stage h.list number (one.idle both.1)))
-            (none_wants-more stage h.list number (h.idle both.0) (one.idle both.1));
-      }
+    -- a turn that makes an access
+    pub round-next : ((list : List Entry) → AreStanding work stage list w →
+        IsTurnAt work stage list number after true) → GoRound (place + 1) live after
+    round-next turn = record {
+      list = turn_in stage h.list number;
+      stands = (turn h.list h.stands).stands;
+      rest = rest_after;
+      left = left_after;
+    }
 
-  pub round-last : (number : ℕ) (w : AtWork G F) (made : Bool) → length stage.era.actors ≤ number →
-      GoRound number w made → IsRound work stage m w made
-  round-last number w made l h =
-      let none : length stage.era.actors - number ≡ 0 = omega arith in
+    -- and one that makes none
+    pub round-without : (less : List ℕ) → less ≡ remove live place → ((list : List Entry) →
+        AreStanding work stage list w → IsTurnAt work stage list number after false) → GoRound place less after
+    round-without less less_is turn =
+        let one : IsTurnAt work stage h.list number after false = turn h.list h.stands in
+        let next : List Entry = turn_in stage h.list number in
+        let ended : IsEnded stage next number =
+        subst (λ list. IsEnded stage list number) (sym (idle_turn stage h.list number (one.idle refl)))
+        (one.idle refl) in
+        record {
+          list = next;
+          stands = one.stands;
+          rest = ap (λ l. turns_in stage (drop place l) next) less_is
+              ∙ (ap (λ ns. turns_in stage ns next)
+              (drop_remove live place (slice_get_within live place number there)) ∙ rest_after);
+          left = subst (AreLeft (IsEnded stage next) 0 (length stage.era.actors)) (sym less_is)
+              (left_without (IsEnded stage next) 0 (length stage.era.actors) live place number there ended left_after);
+        }
+
+  pub round-last : (place : ℕ) (live : List ℕ) (w : AtWork G F) → length live ≤ place → GoRound place live w →
+      IsRound work stage m w live
+  round-last place live w l h =
       let is : h.list ≡ turns_in stage (round stage.era) m =
-      sym (ap (λ n. turns_in stage (range_with_len number n) h.list) none) ∙ h.left in
+      sym (ap (λ ns. turns_in stage ns h.list) (drop_of_length-le live l)) ∙ h.rest in
       record {
         stands = subst (λ list. AreStanding work stage list w) is h.stands;
-        idle = λ still. subst (NobodyWantsIn stage) is
-            (nobody stage.setting stage.places h.list stage.base stage.era.actors (λ k actor there.
-            let inside : k < length stage.era.actors = slice_get_within stage.era.actors k actor there in
-            h.idle still k actor (omega arith) there));
+        left = subst (λ list. AreLeft (IsEnded stage list) 0 (length stage.era.actors) live) is h.left;
       }
 
   -- Rounds are under way: what more of them make here, some number of them makes of the first accesses.
-  pub record HaveGone (w : AtWork G F) : Type 0 where
+  pub record HaveGone (live : List ℕ) (w : AtWork G F) : Type 0 where
     pub list : List Entry
     pub stands : AreStanding work stage list w
+    pub left : AreLeft (IsEnded stage list) 0 (length stage.era.actors) live
     pub more : (r : ℕ) → (q : ℕ) × (turns_in stage (repeat r (round stage.era)) list
         ≡ turns_in stage (repeat q (round stage.era)) m)
 
-  pub gone-first : (w : AtWork G F) → AreStanding work stage m w → HaveGone w
-  gone-first w h = record { list = m; stands = h; more = λ r. (r, refl) }
-
-  pub gone-next : (w after : AtWork G F) (made : Bool) → HaveGone w → ((list : List Entry) →
-      AreStanding work stage list w → IsRound work stage list after made) → HaveGone after
-  gone-next w after made h go = record {
-    list = turns_in stage (round stage.era) h.list;
-    stands = (go h.list h.stands).stands;
-    more = λ r.
-        let all = h.more (suc r) in (
-          all.0,
-          sym (turns-append stage (round stage.era) (repeat r (round stage.era)) h.list) ∙ all.1,
-        );
+  pub gone-first : (live : List ℕ) (w : AtWork G F) → live ≡ range_with_len 0 (length w.instances) →
+      AreStanding work stage m w → HaveGone live w
+  gone-first live w all h = record {
+    list = m;
+    stands = h;
+    left = subst (AreLeft (IsEnded stage m) 0 (length stage.era.actors))
+        (ap (range_with_len 0) (sym h.count) ∙ sym all) (all_left (IsEnded stage m) 0 (length stage.era.actors));
+    more = λ r. (r, refl);
   }
 
-  pub gone-last : (w after : AtWork G F) → HaveGone w → ((list : List Entry) → AreStanding work stage list w →
-      IsRound work stage list after false) → AreDone work stage m after
-  gone-last w after h go =
-      let one : IsRound work stage h.list after false = go h.list h.stands in
-      let next : List Entry = turns_in stage (round stage.era) h.list in
-      let all = h.more 1 in
-      let is : next ≡ turns_in stage (repeat all.0 (round stage.era)) m =
-      sym (turns-append stage (round stage.era) (repeat 0 (round stage.era)) h.list) ∙ all.1 in
+  pub gone-next : (live next : List ℕ) (w after : AtWork G F) → HaveGone live w → ((list : List Entry) →
+      AreStanding work stage list w → AreLeft (IsEnded stage list) 0 (length stage.era.actors) live →
+      IsRound work stage list after next) → HaveGone next after
+  gone-next live next w after h go =
+      let one : IsRound work stage h.list after next = go h.list h.stands h.left in
+      record {
+        list = turns_in stage (round stage.era) h.list;
+        stands = one.stands;
+        left = one.left;
+        more = λ r.
+            let all = h.more (suc r) in (
+              all.0,
+              sym (turns-append stage (round stage.era) (repeat r (round stage.era)) h.list) ∙ all.1,
+            );
+      }
+
+  pub gone-last : (live : List ℕ) (w : AtWork G F) → live ≡ [] → HaveGone live w → AreDone work stage m w
+  gone-last live w none h =
+      let all = h.more 0 in
       record {
         rounds = all.0;
-        stands = subst (λ list. AreStanding work stage list after) is one.stands;
-        nothing = subst (NobodyWantsIn stage) is (one.idle refl);
+        stands = subst (λ list. AreStanding work stage list w) all.1 h.stands;
+        nothing = subst (NobodyWantsIn stage) all.1 (nobody_left stage h.list
+            (subst (AreLeft (IsEnded stage h.list) 0 (length stage.era.actors)) none h.left));
       }

@@ -5,13 +5,14 @@ use Rattle.std.proofs.lemmas.Option.{same_Some, slice_get_within}
 use Rattle.slnf_access.specs.declared.requests.Entry.{Entry}
 use Rattle.slnf_access.specs.declared.requests.Ask.{Ask}
 use Rattle.slnf_run.specs.Setting.{Actor}
+use Rattle.slnf_run.specs.Jobs.{by_rounds, wanted_in}
 use Rattle.slnf_run.specs.Parts.{part_of}
 use Rattle.slnf_run.specs.Scheduled.{entry_after, with_access, turn_of}
 use Rattle.slnf_run.proofs.Parting.{part_of-append, part_of-other}
 use Rattle.slnf_shards.proofs.Laws.{clock-other}
 use Rattle.slnf_instance.specs.Items.{Workload}
 use Rattle.slnf_instance.specs.Instances.{Acting, StandsBy}
-use Rattle.slnf_orch.specs.Actors.{Stage, AtWork, at_work, epoch_in, way_in, job_at, wanted_at, after_turn, turn_in, HasHistories, IsAt, IsTurn, AreStanding, IsTurnAt, HasRoomAt, HasRoom}
+use Rattle.slnf_orch.specs.Actors.{Stage, AtWork, at_work, epoch_in, way_in, job_at, wanted_at, after_turn, turn_in, IsEnded, HasHistories, IsAt, IsTurn, AreStanding, IsTurnAt, HasRoomAt, HasRoom}
 use Rattle.slnf_orch.proofs.Places.{get-set-own, get-set-other, some_at}
 
 -- the part of an incarnation with one entry more of another
@@ -21,6 +22,25 @@ part_still incarnation m e apart =
     part_of-append incarnation m (e ∷ [])
     ∙ (ap (λ part. part_of incarnation m ++ part) (part_of-other incarnation e [] apart)
     ∙ append-nil (part_of incarnation m))
+
+-- an actor that wants nothing wants nothing after another's turn
+pub ended_still : {F : Type 0} (stage : Stage F) (m : List Entry) (number other : ℕ) → (number ≡ other → ⊥) →
+    IsEnded stage m number → IsEnded stage (turn_in stage m other) number
+ended_still {F} stage m number other apart h actor at = go (slice_get stage.era.actors other)
+  where
+    after_access : (o : Option Ask) →
+        wanted_at stage (with_access stage.setting (way_in stage) m (stage.base + other) o) number actor ≡ None
+    after_access None = h actor at
+    after_access (Some ask) =
+        let own : ℕ = stage.base + number in
+        let e : Entry = entry_after stage.setting (way_in stage) m (stage.base + other) ask in
+        let others : e.incarnation ≡ own → ⊥ = λ q. apart (omega arith) in
+        ap (wanted_in by_rounds (job_at stage number actor)) (part_still own m e others) ∙ h actor at
+
+    go : (o : Option Actor) →
+        wanted_at stage (turn_of stage.setting (way_in stage) stage.base stage.places m other o) number actor ≡ None
+    go None = h actor at
+    go (Some a) = after_access (wanted_at stage m other a)
 
 module _ {G F : Type 0} (work : G → Workload F) (stage : Stage F) (m : List Entry) where
   -- an actor that stands still stands after another's access of its epoch

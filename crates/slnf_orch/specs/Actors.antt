@@ -1,5 +1,5 @@
 -- The actors of an epoch at work on the shards, after a list of accesses.
-use Rattle.std.specs.Prelude.{◌≡◌, ℕ, ◌+◌, ◌≤◌, ◌<◌, ◌^◌, Bool, false, Option, Some, None, List, length, slice_get}
+use Rattle.std.specs.Prelude.{◌≡◌, ◌⊎◌, ℕ, zero, suc, ◌+◌, ◌≤◌, ◌<◌, ◌^◌, Bool, false, Option, Some, None, List, [], ◌∷◌, length, slice_get}
 use Rattle.std.specs.List.{repeat, AllByRecursion}
 use Rattle.slnf_access.specs.declared.requests.Entry.{Entry}
 use Rattle.slnf_access.specs.declared.requests.Ask.{Ask}
@@ -11,6 +11,15 @@ use Rattle.slnf_run.specs.Made.{clock}
 use Rattle.slnf_shards.specs.Parts.{ArePartsOf}
 use Rattle.slnf_instance.specs.Items.{Workload}
 use Rattle.slnf_instance.specs.Instances.{Acting, StandsBy, ask_by}
+
+-- Of so many numbers from this one on, these are left in order. Of each other one the property holds.
+abbrev pub AreLeft : (ℕ → Type 0) → ℕ → ℕ → List ℕ → Type 0
+AreLeft Ended from zero [] = Unit {0}
+AreLeft Ended from zero (number ∷ numbers) = ⊥
+AreLeft Ended from (suc count) [] = Ended from × AreLeft Ended (from + 1) count []
+AreLeft Ended from (suc count) (number ∷ numbers) =
+    ((from ≡ number) × AreLeft Ended (from + 1) count numbers)
+    ⊎ (Ended from × AreLeft Ended (from + 1) count (number ∷ numbers))
 
 -- An epoch of a setting: its number and its first incarnation, how far each lane has come before it, and its actors
 -- and their schedule. What boxes see has no part in it.
@@ -62,6 +71,11 @@ module _ {F : Type 0} (stage : Stage F) where
   abbrev pub turns_in : List ℕ → List Entry → List Entry
   turns_in numbers m = turns stage.setting way_in stage.base stage.places stage.era numbers m
 
+  -- the epoch's actor with this number, if there is one, wants no access after these
+  abbrev pub IsEnded : List Entry → ℕ → Type 0
+  IsEnded m number = (actor : Actor) → slice_get stage.era.actors number ≡ Some actor →
+      wanted_at m number actor ≡ None
+
   -- no actor of the epoch wants an access after these
   abbrev pub NobodyWantsIn : List Entry → Type 0
   NobodyWantsIn m = NobodyWants stage.setting by_rounds stage.places m stage.base stage.era.actors
@@ -102,14 +116,13 @@ module _ {G F : Type 0} (work : G → Workload F) where
 
     -- The turn of the actor with this number.
     pub record IsTurnAt (m : List Entry) (number : ℕ) (w : AtWork G F) (made : Bool) : Type 0 where
-      pub idle : made ≡ false → (actor : Actor) → slice_get stage.era.actors number ≡ Some actor →
-          wanted_at stage m number actor ≡ None
+      pub idle : made ≡ false → IsEnded stage m number
       pub stands : AreStanding (turn_in stage m number) w
 
-    -- A round of the epoch's actors. Where it makes no access, none of them wants one.
-    pub record IsRound (m : List Entry) (w : AtWork G F) (made : Bool) : Type 0 where
+    -- A round of the epoch's actors, after which these are left. All others have ended.
+    pub record IsRound (m : List Entry) (w : AtWork G F) (live : List ℕ) : Type 0 where
       pub stands : AreStanding (turns_in stage (round stage.era) m) w
-      pub idle : made ≡ false → NobodyWantsIn stage (turns_in stage (round stage.era) m)
+      pub left : AreLeft (IsEnded stage (turns_in stage (round stage.era) m)) 0 (length stage.era.actors) live
 
     -- All of the epoch's actors have ended, after so many rounds.
     pub record AreDone (m : List Entry) (w : AtWork G F) : Type 0 where

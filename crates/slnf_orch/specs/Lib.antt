@@ -1,6 +1,3 @@
-pub mod Courses
-pub mod FunctionMachine
-pub mod Items
 pub mod Actors
 pub mod Ledger
 pub mod Hiring

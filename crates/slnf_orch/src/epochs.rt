@@ -2,10 +2,11 @@ ghost use Rattle.std.specs.Prelude.{◌≡◌, ◌+◌, ◌*◌, ◌<◌, ◌≤
 ghost use Rattle.slnf_flight.specs.Lanes.{packet_count};
 ghost use Rattle.slnf_orch.specs.Passing.{IsUnderWay};
 
-use crate::crews::{crew_of, hand_over, items_of};
+use crate::crews::{crew_of, hand_over};
 use crate::ledger::Ledger;
 use crate::turns::{rounds, turns_by};
 use slnf_base::NoMemory;
+use slnf_crew::{actors_have_jobs, epoch_of, items_of};
 use slnf_flight::{AnyFunction, Lane};
 use slnf_plan::Plan;
 use slnf_setting::{know_types, plan_has_one_box, plan_passes_few};
@@ -33,8 +34,9 @@ pub(crate) fn run_epoch(
     know_types(plan);
     plan_has_one_box();
     plan_passes_few();
+    actors_have_jobs();
     let function = AnyFunction::of(alloc, plan, number)?;
-    let epoch = &plan.epochs.as_slice()[number];
+    let epoch = epoch_of(plan, number);
     let items = items_of(alloc, &function, lanes, base, epoch)?;
     let mut crew = crew_of(alloc, plan, epoch, ledger, items.as_slice())?;
     let count = crew.len();
@@ -46,7 +48,7 @@ pub(crate) fn run_epoch(
         base,
         epoch.schedule.as_slice(),
     )?;
-    rounds(shards, &mut crew, &mut clocks, base)?;
+    rounds(alloc, shards, &mut crew, &mut clocks, base)?;
     hand_over(ledger, crew, epoch.instances.as_slice())?;
     Ok(base + count as u64)
 }

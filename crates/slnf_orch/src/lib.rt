@@ -3,7 +3,6 @@
 
 mod crews;
 mod epochs;
-mod items;
 mod ledger;
 mod plans;
 mod turns;

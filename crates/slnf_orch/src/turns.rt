@@ -12,6 +12,7 @@ use slnf_base::NoMemory;
 use slnf_bucket::BucketError;
 use slnf_instance::{Instance, Items};
 use slnf_shards::Shards;
+use std::alloc::Global;
 
 /// Makes an access while there are stamps, and answers its reply and its stamp.
 fn access(
@@ -51,7 +52,6 @@ pub(crate) fn turn<T: Items>(
     requires base { base + number < 2 ^ 64 }
     requires room { HasRoomAt T.work base number shards.old instance.old clock.old }
     ensures kept { IfOk result (λ made. made ≡ false → shards.new ≡ shards.old) }
-    ensures still { IfOk result (λ made. made ≡ false → instance.new ≡ instance.old) }
     ensures idle { IfOk result (λ made. made ≡ false → ask_by instance.new ≡ None) }
     ensures spends { IfOk result (λ made. made ≡ true → spent shards.old < spent shards.new) }
     ensures most { IfOk result (λ made. made ≡ true → spent shards.new ≤ length shards.new * 2 ^ 62) }
@@ -71,7 +71,7 @@ pub(crate) fn turn<T: Items>(
     Ok(true)
 }
 
-ghost use Rattle.slnf_orch.specs.Actors.{at_work, turns_in, AreStanding, IsTurnAt, IsRound, AreDone, IsIdleAt, AreIdle, HasRoom};
+ghost use Rattle.slnf_orch.specs.Actors.{at_work, turns_in, AreLeft, IsEnded, AreStanding, IsTurnAt, IsRound, AreDone, IsIdleAt, AreIdle, HasRoom};
 
 /// The same for one of an epoch's actors.
 pub(crate) fn turn_at<T: Items>(
@@ -89,8 +89,9 @@ pub(crate) fn turn_at<T: Items>(
     ensures clocks { OnOk result (length clocks.new.items ≡ length clocks.old.items) }
     ensures instances { OnOk result (length instances.new.items ≡ length instances.old.items) }
     ensures kept { IfOk result (λ made. made ≡ false → shards.new ≡ shards.old) }
-    ensures still { IfOk result (λ made. made ≡ false → instances.new.items ≡ instances.old.items) }
     ensures idle { IfOk result (λ made. made ≡ false → IsIdleAt instances.new.items number) }
+    ensures others { OnOk result ((k : ℕ) → (k ≡ number → ⊥) → IsIdleAt instances.old.items k
+        → IsIdleAt instances.new.items k) }
     ensures spends { IfOk result (λ made. made ≡ true → spent shards.old < spent shards.new) }
     ensures most { IfOk result (λ made. made ≡ true → spent shards.new ≤ length shards.new * 2 ^ 62) }
     ensures count { OnOk result (length shards.new ≡ length shards.old) }
@@ -131,37 +132,61 @@ pub(crate) fn turns_by<T: Items>(
     Ok(())
 }
 
-/// Makes a turn of each actor, and answers whether one made an access.
+ghost use Rattle.std.specs.Prelude.{[]};
+ghost use Rattle.std.specs.List.{range_with_len};
+
+/// Makes a turn of each of these actors, of which all others have ended, and leaves out those that made no access.
 pub(crate) fn round<T: Items>(
     shards: &mut Shards,
     instances: &mut Vec<Instance<'_, T>>,
     clocks: &mut Vec<u64>,
     base: u64,
-) -> Result<bool, NoMemory>
+    live: &mut Vec<u32>,
+) -> Result<(), NoMemory>
     requires clocks { length clocks.old.items ≡ length instances.old.items }
     requires base { base + length instances.old.items ≤ 2 ^ 32 }
     requires room { HasRoom T.work (at_work base shards.old instances.old.items clocks.old.items) }
+    requires live { AreLeft (IsIdleAt instances.old.items) 0 (length instances.old.items) live.old.items }
     ensures room { OnOk result (HasRoom T.work (at_work base shards.new instances.new.items clocks.new.items)) }
     ensures clocks { OnOk result (length clocks.new.items ≡ length clocks.old.items) }
     ensures instances { OnOk result (length instances.new.items ≡ length instances.old.items) }
-    ensures idle { IfOk result (λ made. made ≡ false → AreIdle instances.new.items) }
-    ensures spends { IfOk result (λ made. made ≡ true → spent shards.old < spent shards.new) }
-    ensures most { IfOk result (λ made. made ≡ true → spent shards.new ≤ length shards.new * 2 ^ 62) }
+    ensures live { OnOk result (AreLeft (IsIdleAt instances.new.items) 0 (length instances.new.items) live.new.items) }
+    ensures fewer { OnOk result (length live.new.items ≤ length live.old.items) }
+    ensures kept { OnOk result (live.new.items ≡ [] → shards.new ≡ shards.old) }
+    ensures spends { OnOk result (0 < length live.new.items → spent shards.old < spent shards.new) }
+    ensures most { OnOk result (0 < length live.new.items → spent shards.new ≤ length shards.new * 2 ^ 62) }
     ensures count { OnOk result (length shards.new ≡ length shards.old) }
-    ensures turned { IfOk result (λ made. (stage : Stage T.Flight) (m : List Entry)
+    ensures turned { OnOk result ((stage : Stage T.Flight) (m : List Entry)
         → AreStanding T.work stage m (at_work base shards.old instances.old.items clocks.old.items)
-        → IsRound T.work stage m (at_work base shards.new instances.new.items clocks.new.items) made) }
+        → AreLeft (IsEnded stage m) 0 (length stage.era.actors) live.old.items
+        → IsRound T.work stage m (at_work base shards.new instances.new.items clocks.new.items) live.new.items) }
 {
-    let mut made = false;
-    for number in 0..instances.len() {
-        let moved = turn_at(shards, instances, clocks, base, number)?;
-        made |= moved;
+    let mut place = 0;
+    while place < live.len() {
+        if turn_at(shards, instances, clocks, base, live[place] as usize)? {
+            place += 1;
+        } else {
+            live.remove(place);
+        }
     }
-    Ok(made)
+    Ok(())
+}
+
+/// So many numbers from 0 on.
+fn numbers_of(alloc: Global, count: usize) -> Result<Vec<u32>, NoMemory>
+    requires { count ≤ 2 ^ 32 }
+    ensures { IfOk result (λ numbers. numbers.items ≡ range_with_len 0 count) }
+{
+    let mut numbers = Vec::with_capacity(alloc, count)?;
+    for number in 0..count {
+        numbers.push(number as u32)?;
+    }
+    Ok(numbers)
 }
 
 /// Lets the actors go round until all of them have ended.
 pub(crate) fn rounds<T: Items>(
+    alloc: Global,
     shards: &mut Shards,
     instances: &mut Vec<Instance<'_, T>>,
     clocks: &mut Vec<u64>,
@@ -177,6 +202,9 @@ pub(crate) fn rounds<T: Items>(
         → AreStanding T.work stage m (at_work base shards.old instances.old.items clocks.old.items)
         → AreDone T.work stage m (at_work base shards.new instances.new.items clocks.new.items)) }
 {
-    while round(shards, instances, clocks, base)? {}
+    let mut live = numbers_of(alloc, instances.len())?;
+    while !live.is_empty() {
+        round(shards, instances, clocks, base, &mut live)?;
+    }
     Ok(())
 }

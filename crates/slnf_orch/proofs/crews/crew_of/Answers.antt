@@ -5,9 +5,11 @@ use Rattle.slnf_run.specs.Setting.{Actor}
 use Rattle.slnf_flight.specs.Actors.{era_of_epoch}
 use Rattle.slnf_instance.specs.Errands.{job_in}
 use Rattle.slnf_instance.specs.Instances.{StandsBy}
-use Rattle.slnf_orch.specs.Hiring.{items_work, errand_of, IsHired}
+use Rattle.slnf_crew.specs.Errands.{items_work, errand_of}
+use Rattle.slnf_crew.proofs.Laws.{pushed}
+use Rattle.slnf_orch.specs.Hiring.{place_at, IsHired}
 use Rattle.slnf_orch.specs.Ledger.{places_in}
-use Rattle.slnf_orch.proofs.Pushes.{pushed}
+use Rattle.slnf_orch.proofs.EpochPasses.{actor_place}
 use Rattle.slnf_orch.proofs.crews.crew_of.Goals as goal
 
 pub loop-number-preserved : goal.loop-number-preserved
@@ -28,7 +30,10 @@ loop-number-preserved c =
             works = items c.loop-number.number c.index-items-number.result a at a_at;
             stands = subst (λ e. StandsBy items_work (job_in (items_work c.index-items-number.result) e) []
                 c.in_ok-make.field-0)
-                (c.errand_for-errand.ensures.given a a_at
+                (c.errand_for-errand.ensures.given (places_in c.args.ledger.now) a a_at
+                (actor_place c.args.epoch.now (places_in c.args.ledger.now) c.loop-number.number a a_at
+                ∙ (ap (λ l. place_at (places_in c.args.ledger.now) l c.loop-number.number) (sym c.as_slice.ensures)
+                ∙ sym c.place_of-at.ensures))
                 ∙ ap (errand_of c.args.plan.now (places_in c.args.ledger.now) a) c.count.ensures.is)
                 c.in_ok-make.ensures.stands;
           })

@@ -3,82 +3,79 @@ use Rattle.std.proofs.Common.{◌≡◌, ◌+◌, ◌≤◌, ◌<◌, ◌++◌, 
 use Rattle.std.specs.List.{list_all}
 use Rattle.slnf_plan.specs.declared.plan.Epoch.{Epoch}
 use Rattle.slnf_plan.specs.declared.plan.InstancePlan.{InstancePlan}
-use Rattle.slnf_plan.specs.Ranges.{actor_count}
 use Rattle.slnf_access.specs.declared.requests.Entry.{Entry}
 use Rattle.slnf_instance.specs.Items.{Workload}
 use Rattle.slnf_flight.specs.declared.flights.AnyFlight.{AnyFlight}
 use Rattle.slnf_flight.specs.Actors.{instance_actor, era_of_epoch}
+use Rattle.slnf_flight.specs.Functions.{IsFunctionOf}
 use Rattle.slnf_flight.specs.PlanSetting.{setting_of}
+use Rattle.slnf_crew.specs.Errands.{items_work}
 use Rattle.slnf_run.specs.Jobs.{Job}
 use Rattle.slnf_run.specs.Parts.{part_of}
 use Rattle.slnf_orch.specs.Actors.{Stage, at_work, turns_in, AreStanding, AreDone}
-use Rattle.slnf_orch.specs.Hiring.{items_work}
 use Rattle.slnf_orch.specs.Ledger.{verdicts_at, places_in, DoStand, given_from}
 use Rattle.slnf_orch.specs.Passing.{IsUnderWay}
 use Rattle.slnf_orch.proofs.EpochPasses.{instance_at, instances_most, epoch_stage, crew_stands, crew_has_room, end_list, end_stands, has_ended}
 use Rattle.slnf_orch.proofs.Giving.{job_there}
-use Rattle.slnf_orch.proofs.PlanEpochs.{is_epoch, lanes_few, actors_count}
-use Rattle.slnf_orch.proofs.Pushes.{at_index}
 use Rattle.slnf_orch.proofs.UnderWay.{era_there, under_way_next}
 use Rattle.slnf_orch.proofs.epochs.run_epoch.Goals as goal
 
-pub items_of-requires-clause-few : goal.items_of-requires-clause-few
-items_of-requires-clause-few c = lanes_few c.args.lanes.now c.requires.few_packets
+pub items_of-requires-clause-sweep : goal.items_of-requires-clause-sweep
+items_of-requires-clause-sweep c =
+    c.epoch_of-epoch.ensures.sweep c.in_ok-function.function
+    (subst (λ o. IsFunctionOf c.args.plan.now.function o c.in_ok-function.function) c.epoch_of-epoch.ensures.there
+    c.in_ok-function.ensures)
 
 pub crew_of-requires : goal.crew_of-requires
 crew_of-requires c = record {
   fits = λ k item i item_at i_at.
-      let there = ap (λ l. slice_get l k) (sym c.as_slice-2.ensures.value) ∙ item_at in
+      let there = ap (λ l. slice_get l k) (sym c.as_slice.ensures.value) ∙ item_at in
       let work = c.in_ok-items.ensures.each k item (instance_actor i) there
-      (instance_at c.index-as_slice-number.result k i i_at) in
+      (instance_at c.epoch_of-epoch.result.now k i i_at) in
       subst (λ (w : Workload AnyFlight). places_in c.args.ledger.now i.lane ≤ w.count) (sym work)
       (c.requires.under_way.fits i.lane);
 }
 
 pub turns_by-requires-clause-there : goal.turns_by-requires-clause-there
 turns_by-requires-clause-there c =
-    let epoch : Epoch = c.index-as_slice-number.result in
-    let at = at_index c.args.plan.now.epochs c.as_slice.result.now c.args.number epoch c.as_slice.ensures
-    c.requires.there c.index-as_slice-number.is in
-    let count : length c.in_ok-crew.crew.items ≡ actor_count epoch =
-    c.in_ok-crew.ensures.count ∙ (ap length c.as_slice-2.ensures.value
-    ∙ (c.in_ok-items.ensures.count ∙ actors_count epoch)) in
-    subst (λ n. list_all (λ k. nat_lt k n) c.as_slice-3.result.now ≡ true) (sym count)
-    (subst (λ l. list_all (λ k. nat_lt k (actor_count epoch)) l ≡ true) (sym c.as_slice-3.ensures)
-    (is_epoch c.args.plan.now c.args.number epoch at).schedule)
+    let epoch : Epoch = c.epoch_of-epoch.result.now in
+    let count : length c.in_ok-crew.crew.items ≡ length (era_of_epoch epoch).actors =
+    c.in_ok-crew.ensures.count ∙ (ap length c.as_slice.ensures.value ∙ c.in_ok-items.ensures.count) in
+    subst (λ n. list_all (λ k. nat_lt k n) c.as_slice-2.result.now ≡ true) (sym count)
+    (subst (λ l. list_all (λ k. nat_lt k (length (era_of_epoch epoch).actors)) l ≡ true) (sym c.as_slice-2.ensures)
+    c.epoch_of-epoch.ensures.schedule)
 
 pub turns_by-requires-clause-room : goal.turns_by-requires-clause-room
 turns_by-requires-clause-room c =
     let plan = c.args.plan.now in
     let lanes = c.args.lanes.now in
-    let epoch : Epoch = c.index-as_slice-number.result in
+    let epoch : Epoch = c.epoch_of-epoch.result.now in
     let h : IsUnderWay plan lanes c.args.number c.args.base c.args.shards.now c.args.ledger.now =
     c.requires.under_way in
-    let at = at_index plan.epochs c.as_slice.result.now c.args.number epoch c.as_slice.ensures
-    c.requires.there c.index-as_slice-number.is in
+    let at = c.epoch_of-epoch.ensures.there in
     let crew_count : length c.in_ok-crew.crew.items ≡ length (era_of_epoch epoch).actors =
-    c.in_ok-crew.ensures.count ∙ (ap length c.as_slice-2.ensures.value ∙ c.in_ok-items.ensures.count) in
+    c.in_ok-crew.ensures.count ∙ (ap length c.as_slice.ensures.value ∙ c.in_ok-items.ensures.count) in
     let len : c.len-count.result ≡ length c.in_ok-crew.crew.items =
     omega (arith, c.len-count.ensures, c.in_ok-crew.crew.ok) in
     crew_has_room plan lanes c.args.number c.args.base epoch c.args.shards.now c.args.ledger.now h
     c.in_ok-crew.crew.items c.in_ok-clocks.clocks.items at
     (crew_stands plan lanes c.args.number c.args.base epoch c.args.shards.now c.args.ledger.now h
     c.in_ok-function.function c.in_ok-crew.crew.items c.in_ok-clocks.clocks.items c.len-count.result c.latest.result at
-    c.in_ok-function.ensures
+    (λ k actor work.
+    c.actors_have_jobs.ensures plan lanes c.args.number c.args.base epoch c.in_ok-function.function
+    (places_in c.args.ledger.now) k actor work at h.base_is
+    (subst (λ o. IsFunctionOf plan.function o c.in_ok-function.function) at c.in_ok-function.ensures))
     (c.in_ok-crew.ensures.hired c.in_ok-function.function lanes c.args.base
     (λ k item actor item_at actor_at. c.in_ok-items.ensures.each k item actor
-    (ap (λ l. slice_get l k) (sym c.as_slice-2.ensures.value) ∙ item_at) actor_at)) crew_count len
+    (ap (λ l. slice_get l k) (sym c.as_slice.ensures.value) ∙ item_at) actor_at)) crew_count len
     (c.in_ok-clocks.ensures.items_if_clones_equal (λ y same. same)) c.latest.ensures.value)
     (λ m made. c.plan_passes_few.ensures.fewer plan lanes c.args.number c.args.base (places_in c.args.ledger.now) m
     c.know_types.ensures c.requires.few_packets made)
 
 pub hand_over-requires-clause-there : goal.hand_over-requires-clause-there
 hand_over-requires-clause-there c k i i_at =
-    let epoch : Epoch = c.index-as_slice-number.result in
-    let at = at_index c.args.plan.now.epochs c.as_slice.result.now c.args.number epoch c.as_slice.ensures
-    c.requires.there c.index-as_slice-number.is in
-    let low : i.lane < 32 = (is_epoch c.args.plan.now c.args.number epoch at).lanes k i
-    (ap (λ l. slice_get l k) (sym c.as_slice-4.ensures) ∙ i_at) in
+    let low : i.lane < 32 = c.epoch_of-epoch.ensures.lanes k i
+    (ap (λ l. slice_get l k) (sym c.as_slice-3.ensures) ∙ i_at) in
     let lanes : length c.args.ledger.now ≡ 32 = c.requires.under_way.lanes_are in
     omega arith
 
@@ -86,29 +83,31 @@ pub returns-clause-under_way : goal.returns-clause-under_way
 returns-clause-under_way c =
     let plan = c.args.plan.now in
     let lanes = c.args.lanes.now in
-    let epoch : Epoch = c.index-as_slice-number.result in
+    let epoch : Epoch = c.epoch_of-epoch.result.now in
     let h : IsUnderWay plan lanes c.args.number c.args.base c.args.shards.now c.args.ledger.now =
     c.requires.under_way in
-    let at = at_index plan.epochs c.as_slice.result.now c.args.number epoch c.as_slice.ensures
-    c.requires.there c.index-as_slice-number.is in
+    let at = c.epoch_of-epoch.ensures.there in
     let crew_count : length c.in_ok-crew.crew.items ≡ length (era_of_epoch epoch).actors =
-    c.in_ok-crew.ensures.count ∙ (ap length c.as_slice-2.ensures.value ∙ c.in_ok-items.ensures.count) in
+    c.in_ok-crew.ensures.count ∙ (ap length c.as_slice.ensures.value ∙ c.in_ok-items.ensures.count) in
     let len : c.len-count.result ≡ length c.in_ok-crew.crew.items =
     omega (arith, c.len-count.ensures, c.in_ok-crew.crew.ok) in
     let stage : Stage AnyFlight =
     epoch_stage plan lanes c.args.number c.args.base epoch c.args.shards.now c.args.ledger.now h in
     let first = crew_stands plan lanes c.args.number c.args.base epoch c.args.shards.now c.args.ledger.now h
     c.in_ok-function.function c.in_ok-crew.crew.items c.in_ok-clocks.clocks.items c.len-count.result c.latest.result at
-    c.in_ok-function.ensures
+    (λ k actor work.
+    c.actors_have_jobs.ensures plan lanes c.args.number c.args.base epoch c.in_ok-function.function
+    (places_in c.args.ledger.now) k actor work at h.base_is
+    (subst (λ o. IsFunctionOf plan.function o c.in_ok-function.function) at c.in_ok-function.ensures))
     (c.in_ok-crew.ensures.hired c.in_ok-function.function lanes c.args.base
     (λ k item actor item_at actor_at. c.in_ok-items.ensures.each k item actor
-    (ap (λ l. slice_get l k) (sym c.as_slice-2.ensures.value) ∙ item_at) actor_at)) crew_count len
+    (ap (λ l. slice_get l k) (sym c.as_slice.ensures.value) ∙ item_at) actor_at)) crew_count len
     (c.in_ok-clocks.ensures.items_if_clones_equal (λ y same. same)) c.latest.ensures.value in
     let turned : AreStanding items_work stage (turns_in stage epoch.schedule h.list)
     (at_work c.args.base c.turns_by.new.shards c.turns_by.new.instances.items c.turns_by.new.clocks.items) =
     subst (λ l. AreStanding items_work stage (turns_in stage l h.list)
     (at_work c.args.base c.turns_by.new.shards c.turns_by.new.instances.items c.turns_by.new.clocks.items))
-    c.as_slice-3.ensures (c.in_ok-turns_by.ensures.turned stage h.list first) in
+    c.as_slice-2.ensures (c.in_ok-turns_by.ensures.turned stage h.list first) in
     let done : AreDone items_work stage (turns_in stage epoch.schedule h.list)
     (at_work c.args.base c.rounds.new.shards c.rounds.new.instances.items c.rounds.new.clocks.items) =
     c.in_ok-rounds.ensures.done stage (turns_in stage epoch.schedule h.list) turned in
@@ -123,11 +122,11 @@ returns-clause-under_way c =
     let given : (lane : ℕ) → verdicts_at c.hand_over.new.ledger lane
     ≡ verdicts_at c.args.ledger.now lane ++ given_from jobs owns 0 epoch.instances lane =
     subst (λ l. (lane : ℕ) → verdicts_at c.hand_over.new.ledger lane
-    ≡ verdicts_at c.args.ledger.now lane ++ given_from jobs owns 0 l lane) c.as_slice-4.ensures
+    ≡ verdicts_at c.args.ledger.now lane ++ given_from jobs owns 0 l lane) c.as_slice-3.ensures
     (c.in_ok-hand_over.ensures.given jobs owns
-    (subst (λ l. length l ≤ length c.rounds.new.instances.items) (sym c.as_slice-4.ensures)
+    (subst (λ l. length l ≤ length c.rounds.new.instances.items) (sym c.as_slice-3.ensures)
     (instances_most epoch c.rounds.new.instances.items done.stands.count))
-    (subst (λ l. DoStand items_work jobs owns c.rounds.new.instances.items l) (sym c.as_slice-4.ensures) stands)) in
+    (subst (λ l. DoStand items_work jobs owns c.rounds.new.instances.items l) (sym c.as_slice-3.ensures) stands)) in
     subst (λ n. IsUnderWay plan lanes (c.args.number + 1) (c.args.base + n) c.rounds.new.shards c.hand_over.new.ledger)
     (sym (len ∙ crew_count))
     (under_way_next plan lanes c.args.number c.args.base epoch c.args.shards.now c.args.ledger.now at h fs

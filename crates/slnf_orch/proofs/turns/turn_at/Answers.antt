@@ -1,9 +1,9 @@
 -- the turn of the actor with this number
-use Rattle.std.proofs.Common.{◌≡◌, Some, length, slice_get, refl, sym, ap, ◌∙◌, arith}
+use Rattle.std.proofs.Common.{◌≡◌, Some, length, slice_get, refl, ap, ◌∙◌, arith}
 use Rattle.std.proofs.lemmas.Option.{slice_get_read}
 use Rattle.slnf_instance.specs.Instances.{ask_by}
 use Rattle.slnf_orch.specs.Actors.{at_work}
-use Rattle.slnf_orch.proofs.Places.{get-set-own, set_same}
+use Rattle.slnf_orch.proofs.Places.{get-set-own, get-set-other}
 use Rattle.slnf_orch.proofs.Standing.{turned_at, room_at, room_next}
 use Rattle.slnf_orch.proofs.turns.turn_at.Goals as goal
 
@@ -45,10 +45,6 @@ returns-clause-idle g c still i there =
     ap ask_by (get-set-own c.args.instances.now.items c.args.number c.turn.new.instance i there)
     ∙ c.in_ok-made.ensures.idle still
 
-pub returns-clause-still : goal.returns-clause-still
-returns-clause-still g c still =
-    let there : slice_get c.args.instances.now.items c.args.number ≡ Some c.index_mut-instance.result.now =
-    slice_get_read c.args.instances.now.items (length c.args.instances.now.items) c.args.number
-    c.index_mut-instance.result.now refl c.requires.there c.index_mut-instance.ensures.value in
-    set_same c.args.instances.now.items c.args.number c.turn.new.instance
-    (there ∙ ap Some (sym (c.in_ok-made.ensures.still still)))
+pub returns-clause-others : goal.returns-clause-others
+returns-clause-others g c k apart h i there =
+    h i (get-set-other c.args.instances.now.items c.args.number k c.turn.new.instance i apart there)

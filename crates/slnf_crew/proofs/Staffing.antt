@@ -12,9 +12,9 @@ use Rattle.slnf_flight.specs.declared.functions.AnyFunction.{AnyFunction}
 use Rattle.slnf_flight.specs.declared.lanes.Lane.{Lane}
 use Rattle.slnf_flight.specs.Actors.{instance_actor, sweep_actors}
 use Rattle.slnf_flight.specs.Lanes.{packets_on}
-use Rattle.slnf_orch.specs.declared.items.ActorItems.{ActorItems}
-use Rattle.slnf_orch.specs.Hiring.{items_work, IsSweepWork, IsWorkOn, AreItemsFor}
-use Rattle.slnf_orch.specs.Items.{packets_work}
+use Rattle.slnf_crew.specs.declared.items.ActorItems.{ActorItems}
+use Rattle.slnf_crew.specs.Errands.{items_work, IsSweepWork, IsWorkOn, AreItemsFor}
+use Rattle.slnf_crew.specs.Items.{packets_work}
 
 -- the elements at one place of two lists that go on at one place
 both_at : {X Y : Type 0} (xs ys : List X) (ps bs : List Y) (k : ℕ) (x : X) (a : Y) → length xs ≡ length ps →
@@ -31,8 +31,12 @@ both_at (z ∷ xs) ys (b ∷ ps) bs (suc k) x a count h j = both_at xs ys ps bs 
 lane_of_sweep : (sweep : SweepPlan) (m : ℕ) (actor : Actor) → slice_get (sweep_actors sweep) m ≡ Some actor →
     (stop : Option ℕ) × (sweep ≡ Yes stop) × (actor.lane ≡ None)
 lane_of_sweep No m actor h = absurd (cc)
-lane_of_sweep (Yes stop) zero actor h =
-    (stop, refl, ap (λ (a : Actor). a.lane) (sym (same_Some (record { lane = None; quota = None; stop = stop }) actor h)))
+lane_of_sweep (Yes stop) zero actor h = (
+  stop,
+  refl,
+  ap (λ (a : Actor). a.lane) (sym (same_Some (record { lane = None; quota = None; stop = stop }) actor
+      h)),
+)
 lane_of_sweep (Yes stop) (suc m) actor h = absurd (cc)
 
 pub staffed : (function : AnyFunction) (lanes : List Lane) (base : ℕ) (epoch : Epoch)

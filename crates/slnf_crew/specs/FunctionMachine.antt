@@ -9,5 +9,5 @@ use Rattle.slnf_flight.specs.AnyFunction.{any_machine}
 -- the plan's: a NAT's flights are those of its packets and of its sweeps' ports
 abbrev pub function_machine : AnyFunction → Machine AnyFlight
 function_machine (AnyNat function) = any_machine (Nat function.pool)
-function_machine (AnyFirewall function) = any_machine (Firewall function.inside function.rules)
+function_machine (AnyFirewall function) = any_machine (Firewall function.policy.inside function.policy.rules)
 function_machine (AnyBalancer function) = any_machine (Balancer function.service)

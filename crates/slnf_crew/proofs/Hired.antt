@@ -17,7 +17,8 @@ use Rattle.slnf_run.specs.Setting.{Actor, Setting, base_of}
 use Rattle.slnf_run.specs.Jobs.{Job, job_of, within_quota}
 use Rattle.slnf_run.specs.Parts.{at_lane}
 use Rattle.slnf_run.proofs.LanePosts.{slice_get_either, slice_get_of_map}
-use Rattle.slnf_nat.specs.Pools.{port_count, sweep_item}
+use Rattle.slnf_box.specs.Pools.{port_count}
+use Rattle.slnf_nat.specs.Starts.{sweep_item}
 use Rattle.slnf_instance.specs.Items.{Workload}
 use Rattle.slnf_instance.specs.Errands.{job_in}
 use Rattle.slnf_flight.specs.declared.lanes.Lane.{Lane}
@@ -33,12 +34,10 @@ use Rattle.slnf_flight.specs.Begins.{begins_with}
 use Rattle.slnf_flight.specs.Functions.{any_behaviour, IsFunctionOf}
 use Rattle.slnf_flight.specs.Lanes.{or_no_packets, packets_on, lane_sizes, packet_at}
 use Rattle.slnf_flight.specs.PlanSetting.{setting_of, sweep_items_of}
-use Rattle.slnf_flight.proofs.Laws.{starts_are_plans}
-use Rattle.slnf_setting.proofs.PlanBegins.{machine_is as plan_machine, instance_begins, sweep_begins}
-use Rattle.slnf_orch.specs.Hiring.{IsSweepWork, IsWorkOn, errand_of}
-use Rattle.slnf_orch.specs.FunctionMachine.{function_machine}
-use Rattle.slnf_orch.specs.Items.{packets_work}
-use Rattle.slnf_orch.proofs.Functions.{machine_is, nat_is}
+use Rattle.slnf_crew.specs.Errands.{IsSweepWork, IsWorkOn, errand_of}
+use Rattle.slnf_crew.specs.FunctionMachine.{function_machine}
+use Rattle.slnf_crew.specs.Items.{packets_work}
+use Rattle.slnf_crew.proofs.Functions.{machine_is, nat_is}
 
 -- how many packets a lane has
 pub lane_size : (lanes : List Lane) (lane : ℕ) → slice_index (lane_sizes lanes) lane ≡ length (packets_on lanes lane)
@@ -87,24 +86,33 @@ pub record HasEpoch (plan : Plan) (lanes : List Lane) (number base : ℕ) (epoch
 pub has_epoch : (plan : Plan) (lanes : List Lane) (number base : ℕ) (epoch : Epoch) (function : AnyFunction) →
     slice_get plan.epochs number ≡ Some epoch → base ≡ base_of (eras_of plan.epochs) number →
     IsFunctionOf plan.function (slice_get plan.epochs number) function →
+    ((i : ℕ) → (setting_of plan lanes).scene.machine i ≡ any_machine plan.function) →
+    ((o : Option Epoch) → IsFunctionOf plan.function o function → (i item : ℕ) (packet : Packet) →
+    (any_behaviour function).begins i item packet ≡ any_starts plan.function o i item packet) →
+    ((k item : ℕ) (i : InstancePlan) → slice_get epoch.instances k ≡ Some i →
+    (setting_of plan lanes).scene.begins (base_of (eras_of plan.epochs) number + k) item
+    ≡ begins_with (any_starts plan.function (Some epoch) (base_of (eras_of plan.epochs) number + k) item)
+    (packet_at lanes item (Some i.lane))) →
+    ((item : ℕ) (pool : Pool) (stop : Option ℕ) → plan.function ≡ Nat pool → epoch.sweep ≡ Yes stop →
+    (setting_of plan lanes).scene.begins (base_of (eras_of plan.epochs) number + length epoch.instances) item
+    ≡ stand_as NatFlies (sweep_item pool (base_of (eras_of plan.epochs) number) item)) →
     HasEpoch plan lanes number base epoch function
-has_epoch plan lanes number base epoch function at from of =
+has_epoch plan lanes number base epoch function at from of machine starts instances sweep =
     let own : IsFunctionOf plan.function (Some epoch) function =
     subst (λ o. IsFunctionOf plan.function o function) at of in
     record {
       at = at;
       base_is = from;
       of_plan = own;
-      machine = plan_machine plan lanes;
-      starts = starts_are_plans plan.function (Some epoch) function own;
+      machine = machine;
+      starts = starts (Some epoch) own;
       instances = λ k item i there.
           subst (λ b. (setting_of plan lanes).scene.begins (b + k) item
           ≡ begins_with (any_starts plan.function (Some epoch) (b + k) item) (packet_at lanes item (Some i.lane)))
-          (sym from) (instance_begins plan lanes number k item epoch i at there);
+          (sym from) (instances k item i there);
       sweep = λ item pool stop is sweeps.
           subst (λ b. (setting_of plan lanes).scene.begins (b + length epoch.instances) item
-          ≡ stand_as NatFlies (sweep_item pool b item)) (sym from)
-          (sweep_begins plan lanes number item epoch pool stop is at sweeps);
+          ≡ stand_as NatFlies (sweep_item pool b item)) (sym from) (sweep item pool stop is sweeps);
     }
 
 -- the actor of a sweep
@@ -133,7 +141,8 @@ module _ (plan : Plan) (lanes : List Lane) (number base : ℕ) (epoch : Epoch) (
       let begins : (item : ℕ) → begins_with ((any_behaviour function).begins (base + k) item) (slice_get packets item)
       ≡ s.scene.begins (base + k) item = λ item.
       ap (λ start. begins_with start (slice_get packets item)) (fun_ext (h.starts (base + k) item))
-      ∙ (ap (begins_with (any_starts plan.function (Some epoch) (base + k) item)) (packet_there item (slice_get lanes i.lane))
+      ∙ (ap (begins_with (any_starts plan.function (Some epoch) (base + k) item))
+      (packet_there item (slice_get lanes i.lane))
       ∙ sym (h.instances k item i there)) in
       let count : within_quota i.quota (length packets - places i.lane)
       ≡ within_quota i.quota (slice_index (lane_sizes lanes) i.lane - places i.lane) =

@@ -18,7 +18,7 @@ use Rattle.slnf_flight.specs.declared.lanes.Lane.{Lane}
 use Rattle.slnf_flight.specs.Actors.{instance_actor, sweep_actors, era_of_epoch}
 use Rattle.slnf_flight.specs.Functions.{IsFunctionOf}
 use Rattle.slnf_flight.specs.Lanes.{AreFew, packets_on, packet_count}
-use Rattle.slnf_orch.specs.Hiring.{MaySweep}
+use Rattle.slnf_crew.specs.Errands.{MaySweep}
 
 and_left : (a b : Bool) → (a && b) ≡ true → a ≡ true
 and_left true b h = refl
@@ -81,8 +81,8 @@ nat_sweeps (Yes stop) (AnyBalancer function) o (Nat pool) epoch is of h = absurd
 pub record IsEpoch (epoch : Epoch) : Type 0 where
   pub few : length epoch.instances ≤ 32
   pub actors : actor_count epoch ≤ 33
-  pub lanes : (k : ℕ) (i : InstancePlan) → slice_get epoch.instances k ≡ Some i → i.lane < 32
   pub schedule : list_all (λ n. nat_lt n (actor_count epoch)) epoch.schedule ≡ true
+  pub lanes : (k : ℕ) (i : InstancePlan) → slice_get epoch.instances k ≡ Some i → i.lane < 32
 
 pub is_epoch : (plan : Plan) (number : ℕ) (epoch : Epoch) → slice_get plan.epochs number ≡ Some epoch → IsEpoch epoch
 is_epoch plan number epoch at =
@@ -93,6 +93,7 @@ is_epoch plan number epoch at =
     record {
       few = few;
       actors = omega arith;
+      schedule = all_at has_actors plan.epochs number epoch plan.actors_fit at;
       lanes = λ k i there.
           let fits : is_instance i ≡ true = all_at is_instance epoch.instances k i
           (and_right (nat_le (length epoch.instances) 32) (list_all is_instance epoch.instances) own) there in
@@ -100,7 +101,6 @@ is_epoch plan number epoch at =
           (is_at_most 1048576 i.quota) (and_left (nat_le i.lane 31 && is_at_most 1048576 i.quota)
           (is_at_most (2 ^ 40) i.stop) fits)) in
           omega arith;
-      schedule = all_at has_actors plan.epochs number epoch plan.actors_fit at;
     }
 
 -- only a NAT's epoch has a sweep

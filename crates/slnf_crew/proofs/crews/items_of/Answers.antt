@@ -1,10 +1,14 @@
 -- the instances' items, and the sweep's behind them
 use Rattle.std.proofs.Common.{Vec, Global, ◌∙◌, [], ◌∷◌, slice_get, length, sym, ap, subst, append-nil}
-use Rattle.slnf_orch.specs.declared.items.ActorItems.{ActorItems}
-use Rattle.slnf_orch.specs.Hiring.{AreItemsFor}
-use Rattle.slnf_orch.proofs.Staffing.{staffed, sweep_of_one}
-use Rattle.slnf_orch.proofs.crews.items_of.Goals as goal
-use Rattle.slnf_orch.proofs.crews.items_of.Goals.{in-No, in-Yes+in_ok-push-in-Yes}
+use Rattle.slnf_crew.specs.declared.items.ActorItems.{ActorItems}
+use Rattle.slnf_crew.specs.Errands.{AreItemsFor}
+use Rattle.slnf_crew.proofs.PlanEpochs.{lanes_few}
+use Rattle.slnf_crew.proofs.Staffing.{staffed, sweep_of_one}
+use Rattle.slnf_crew.proofs.crews.items_of.Goals as goal
+use Rattle.slnf_crew.proofs.crews.items_of.Goals.{in-No, in-Yes+in_ok-push-in-Yes}
+
+pub packets_of-requires-clause-few : goal.packets_of-requires-clause-few
+packets_of-requires-clause-few c = lanes_few c.args.lanes.now c.requires.few_packets
 
 pub returns-clause-each : goal.returns-clause-each
 returns-clause-each c = elim c.match-epoch.branch [

@@ -2,10 +2,10 @@
 use Rattle.std.proofs.Common.{◌≡◌, ℕ, ◌+◌, Some, length, slice_get}
 use Rattle.slnf_plan.specs.declared.plan.InstancePlan.{InstancePlan}
 use Rattle.slnf_flight.specs.Lanes.{packets_on}
-use Rattle.slnf_orch.specs.declared.items.ActorItems.{ActorItems}
-use Rattle.slnf_orch.specs.Hiring.{items_work}
-use Rattle.slnf_orch.specs.Items.{packets_work}
-use Rattle.slnf_orch.proofs.crews.packets_of.Given as goal
+use Rattle.slnf_crew.specs.declared.items.ActorItems.{ActorItems}
+use Rattle.slnf_crew.specs.Errands.{items_work}
+use Rattle.slnf_crew.specs.Items.{packets_work}
+use Rattle.slnf_crew.proofs.crews.packets_of.Given as goal
 
 abbrev pub invariant-loop-number : goal.invariant-loop-number
 invariant-loop-number l = record {

@@ -6,11 +6,10 @@ use Rattle.slnf_access.specs.declared.functions.Step.TheVariants.{Go as StepGo, 
 use Rattle.slnf_access.specs.declared.requests.Reply.{Reply}
 use Rattle.slnf_access.specs.Machines.{stand_of_step}
 use Rattle.slnf_run.specs.Images.{stand_as}
+use Rattle.slnf_box.specs.Pools.{nat_of}
 use Rattle.slnf_nat.specs.Behaviour.{nat_behaviour, IsPacketFlight as IsNatPacketFlight}
 use Rattle.slnf_nat.specs.Flights.{NatFlight, Out, In, Sweep}
 use Rattle.slnf_nat.specs.Machine.{nat_goes, goes_out, goes_in}
-use Rattle.slnf_nat.specs.Pools.{nat_of}
-use Rattle.slnf_fw.specs.FunctionPolicy.{policy_of}
 use Rattle.slnf_fw.specs.Machine.{fw_goes}
 use Rattle.slnf_lb.specs.Machine.{lb_goes}
 use Rattle.slnf_flight.specs.Flights.{IsPacketFlight}
@@ -24,7 +23,20 @@ use Rattle.slnf_flight.specs.declared.functions.AnyFunction.{AnyFunction}
 use Rattle.slnf_flight.specs.declared.functions.AnyFunction.TheVariants.{Nat as AnyNat, Firewall as AnyFirewall, Balancer as AnyBalancer}
 use Rattle.slnf_flight.specs.AnyFunction.{any_machine}
 use Rattle.slnf_flight.specs.Functions.{any_behaviour, step_as, IsFunctionOf}
-use Rattle.slnf_orch.specs.FunctionMachine.{function_machine}
+use Rattle.slnf_crew.specs.FunctionMachine.{function_machine}
+
+-- what a flight asks, whatever it is of
+pub asks_same : (function : AnyFunction) (flight : AnyFlight) → (any_behaviour function).asks flight
+    ≡ (function_machine function).asks flight
+asks_same (AnyNat function) (NatFlies flight) = refl
+asks_same (AnyNat function) (FwFlies flight) = refl
+asks_same (AnyNat function) (LbFlies flight) = refl
+asks_same (AnyFirewall function) (NatFlies flight) = refl
+asks_same (AnyFirewall function) (FwFlies flight) = refl
+asks_same (AnyFirewall function) (LbFlies flight) = refl
+asks_same (AnyBalancer function) (NatFlies flight) = refl
+asks_same (AnyBalancer function) (FwFlies flight) = refl
+asks_same (AnyBalancer function) (LbFlies flight) = refl
 
 -- the machine is the plan's
 pub machine_is : (plan : FunctionPlan) (epoch : Option Epoch) (function : AnyFunction) →
@@ -70,7 +82,7 @@ goes_same (AnyNat function) (FwFlies flight) reply h = refl
 goes_same (AnyNat function) (LbFlies flight) reply h = refl
 goes_same (AnyFirewall function) (NatFlies flight) reply h = refl
 goes_same (AnyFirewall function) (FwFlies flight) reply h =
-    stand_step_as FwFlies (fw_goes (policy_of function) flight reply)
+    stand_step_as FwFlies (fw_goes function.policy flight reply)
 goes_same (AnyFirewall function) (LbFlies flight) reply h = refl
 goes_same (AnyBalancer function) (NatFlies flight) reply h = refl
 goes_same (AnyBalancer function) (FwFlies flight) reply h = refl

@@ -2,10 +2,10 @@
 use Rattle.std.proofs.Common.{◌≡◌, ◌+◌, Some, slice_get, ap, arith}
 use Rattle.slnf_plan.specs.declared.plan.InstancePlan.{InstancePlan}
 use Rattle.slnf_flight.specs.Lanes.{packets_on}
-use Rattle.slnf_orch.specs.Hiring.{items_work}
-use Rattle.slnf_orch.specs.Items.{packets_work}
-use Rattle.slnf_orch.proofs.Pushes.{pushed, read_at}
-use Rattle.slnf_orch.proofs.crews.packets_of.Goals as goal
+use Rattle.slnf_crew.specs.Errands.{items_work}
+use Rattle.slnf_crew.specs.Items.{packets_work}
+use Rattle.slnf_crew.proofs.Pushes.{pushed, read_at}
+use Rattle.slnf_crew.proofs.crews.packets_of.Goals as goal
 
 pub loop-number-preserved : goal.loop-number-preserved
 loop-number-preserved c = record {

@@ -1,7 +1,8 @@
 -- What an actor works on: the packets of a lane under a function, or the ports of a sweep.
 use Rattle.std.specs.Prelude.{ℕ, ◌*◌, List, length, slice_get}
 use Rattle.slnf_run.specs.Images.{stand_as}
-use Rattle.slnf_nat.specs.Pools.{port_count, sweep_item}
+use Rattle.slnf_box.specs.Pools.{port_count}
+use Rattle.slnf_nat.specs.Starts.{sweep_item}
 use Rattle.slnf_sweep.specs.declared.sweeps.Sweep.{Sweep}
 use Rattle.slnf_instance.specs.Items.{Workload}
 use Rattle.slnf_flight.specs.declared.lanes.Taken.{Taken}
@@ -10,9 +11,9 @@ use Rattle.slnf_flight.specs.declared.flights.AnyFlight.TheVariants.{Nat as NatF
 use Rattle.slnf_flight.specs.declared.functions.AnyFunction.{AnyFunction}
 use Rattle.slnf_flight.specs.Begins.{begins_with}
 use Rattle.slnf_flight.specs.Functions.{any_behaviour}
-use Rattle.slnf_orch.specs.FunctionMachine.{function_machine}
-use Rattle.slnf_orch.specs.declared.items.Kind.{Kind}
-use Rattle.slnf_orch.specs.declared.items.Kind.TheVariants.{Packets, Ports}
+use Rattle.slnf_crew.specs.FunctionMachine.{function_machine}
+use Rattle.slnf_crew.specs.declared.items.Kind.{Kind}
+use Rattle.slnf_crew.specs.declared.items.Kind.TheVariants.{Packets, Ports}
 
 -- the packets of a lane, as an incarnation
 abbrev pub packets_work : AnyFunction → List Taken → ℕ → Workload AnyFlight

@@ -5,32 +5,32 @@ ghost use Rattle.slnf_run.specs.Images.{stand_as};
 ghost use Rattle.slnf_sweep.specs.Standing.{item_stands};
 ghost use Rattle.slnf_instance.specs.Items.{stand_of_standing};
 ghost use Rattle.slnf_flight.specs.declared.flights.AnyFlight.TheVariants.{Nat as NatFlies};
-ghost use Rattle.slnf_orch.specs.FunctionMachine.{function_machine};
+ghost use Rattle.slnf_crew.specs.FunctionMachine.{function_machine};
 
 use slnf_access::{Function, Key, Reply, Request, Start, Step};
 use slnf_base::Verdict;
+use slnf_box::port_count;
 use slnf_flight::{AnyFlight, AnyFunction, Taken, begin};
 use slnf_instance::{Items, Standing};
-use slnf_nat::port_count;
 use slnf_sweep::{Sweep, SweepFlight};
 use std::marker::Model;
 
 /// A packet under way, or a sweep's port.
 #[derive(Debug, Drop)]
-pub(crate) enum Course {
+pub enum Course {
     Packet(AnyFlight),
     Port(SweepFlight),
 }
 
 /// An actor's item under way. Contracts see it as a flight of the plan's function.
 #[derive(Debug, Drop)]
-pub(crate) struct ItemFlight {
-    pub(crate) course: Course,
+pub struct ItemFlight {
+    pub course: Course,
 }
 
 impl Model for ItemFlight {
     ghost use Rattle.slnf_flight.specs.declared.flights.AnyFlight.{AnyFlight as Flying};
-    ghost use Rattle.slnf_orch.specs.Courses.{flight_of};
+    ghost use Rattle.slnf_crew.specs.Courses.{flight_of};
 
     ghost Value = { Flying };
 
@@ -39,32 +39,32 @@ impl Model for ItemFlight {
 
 /// The packets of a lane, as an incarnation takes them.
 #[derive(Debug, Drop)]
-pub(crate) struct LanePackets<'a> {
-    pub(crate) packets: &'a [Taken],
-    pub(crate) incarnation: u64,
-    pub(crate) ghost few: { length packets.now < 2 ^ 32 },
-    pub(crate) ghost numbered: { incarnation < 2 ^ 32 },
+pub struct LanePackets<'a> {
+    pub packets: &'a [Taken],
+    pub incarnation: u64,
+    pub ghost few: { length packets.now < 2 ^ 32 },
+    pub ghost numbered: { incarnation < 2 ^ 32 },
 }
 
 /// What an actor takes: the packets of its lane, or the ports of a sweep.
 #[derive(Debug, Drop)]
-pub(crate) enum Kind<'a> {
+pub enum Kind<'a> {
     Packets(LanePackets<'a>),
     Ports(Sweep),
 }
 
 /// An actor's items under the function of its epoch.
 #[derive(Debug, Drop)]
-pub(crate) struct ActorItems<'a> {
-    pub(crate) function: &'a AnyFunction,
-    pub(crate) kind: Kind<'a>,
+pub struct ActorItems<'a> {
+    pub function: &'a AnyFunction,
+    pub kind: Kind<'a>,
 }
 
 impl<'a> ActorItems<'a> {
-    ghost use Rattle.slnf_orch.specs.Hiring.{items_work};
+    ghost use Rattle.slnf_crew.specs.Errands.{items_work};
 
     /// How many items there are.
-    pub(crate) fn count(&self) -> usize
+    pub fn count(&self) -> usize
         ensures is { result ≡ (items_work self.now).count }
         ensures few { result < 2 ^ 32 }
     {
@@ -76,7 +76,7 @@ impl<'a> ActorItems<'a> {
 }
 
 impl<'a> Items for ActorItems<'a> {
-    ghost use Rattle.slnf_orch.specs.Hiring.{items_work};
+    ghost use Rattle.slnf_crew.specs.Errands.{items_work};
 
     type Flight = ItemFlight;
 

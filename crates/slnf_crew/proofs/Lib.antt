@@ -1,0 +1,6 @@
+mod Functions
+mod Hired
+pub mod Laws
+mod PlanEpochs
+mod Pushes
+mod Staffing

@@ -1,0 +1,4 @@
+pub mod Courses
+pub mod FunctionMachine
+pub mod Items
+pub mod Errands
