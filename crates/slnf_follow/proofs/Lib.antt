@@ -1,0 +1,9 @@
+mod Adding
+mod Answering
+mod Fitting
+mod Following
+mod Growing
+mod Hands
+mod Passing
+mod Plans
+mod Standing
