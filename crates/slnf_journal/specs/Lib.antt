@@ -6,3 +6,4 @@ pub mod Reading
 pub mod Ranges
 pub mod Verdicts
 pub mod Summary
+pub mod BoxLines

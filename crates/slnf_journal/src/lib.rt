@@ -1,6 +1,7 @@
-//! The texts of a run: the journal, the verdicts and the summary line.
+//! The texts of a run: the journal, the verdicts, the summary line and the lines of its ordinary box.
 #![tactic(auto)]
 
+mod box_lines;
 mod entries;
 mod errors;
 mod fields;
@@ -12,6 +13,7 @@ mod read_tests;
 mod summary;
 mod verdicts;
 
+pub use box_lines::{BoxLine, write_box_lines};
 pub use entries::write_journal;
 pub use errors::JournalError;
 pub use read::{read_journal, written_journals_are_read};

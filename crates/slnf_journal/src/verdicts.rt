@@ -27,7 +27,7 @@ fn push_lane(lines: &mut Lines, lane: usize, verdicts: &[Verdict]) -> Result<(),
 }
 
 #[tactic(auto, unfolding(crate::specs::Verdicts::verdict_line))]
-fn push_verdict_line(
+pub(crate) fn push_verdict_line(
     lines: &mut Lines,
     lane: usize,
     number: usize,

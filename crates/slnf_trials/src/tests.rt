@@ -3,12 +3,14 @@ ghost use Rattle.std.specs.List.{list_all};
 ghost use Rattle.slnf_flight.specs.Lanes.{packet_count};
 ghost use Rattle.slnf_flight.specs.Ranges.{is_taken};
 
+use crate::box_cases::BOX_CASES;
 use crate::cases::{BALANCER, CASES, NAT, NAT_OF_TWO, SWEPT};
 use slnf_access::{Entry, Key, Reply, Request, Value};
 use slnf_base::{Change, Packet, Pair, Proto, Reason, Row, Verdict};
 use slnf_flight::{Lane, Outcome, Taken};
 use slnf_orch::step_plan;
 use slnf_plan::{Plan, read_plan};
+use slnf_replay::box_lines;
 use slnf_verdicts::verdicts_of;
 use std::alloc::{AllocError, Global};
 use std::hash::RandomState;
@@ -239,6 +241,20 @@ fn worked_runs_end_so(rt: HostRuntime) -> Result<(), Fail> {
         assert_eq!(rt; told.by_loops.as_str(), case.verdicts);
         assert_eq!(rt; told.by_journal.as_str(), case.verdicts);
         assert_eq!(rt; told.entries, case.entries);
+    }
+    Ok(())
+}
+
+#[test]
+fn ordinary_boxes_answer_so(rt: HostRuntime) -> Result<(), Fail> {
+    let alloc = rt.alloc();
+    for case in BOX_CASES.iter() {
+        let state = RandomState::new(&rt)?;
+        let plan = plan_of(alloc, case.plan, case.epochs)?;
+        let lanes = lanes_of(alloc, case.lanes)?;
+        let outcome = step_plan(alloc, state, &plan, lanes.as_slice())?;
+        let text = box_lines(alloc, &plan, lanes.as_slice(), outcome.journal.as_slice())?;
+        assert_eq!(rt; text.as_slice(), case.text.as_bytes());
     }
     Ok(())
 }

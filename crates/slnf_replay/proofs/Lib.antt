@@ -1,0 +1,14 @@
+mod Scenes
+mod AtEntries
+mod Seating
+mod Sightings
+mod Following
+mod HandsAfter
+mod Marks
+mod Answered
+mod ItemKeys
+mod Crews
+mod OneEntry
+mod DecidedAnswers
+mod FewPackets
+mod WrittenAnswers

@@ -1,0 +1,10 @@
+pub mod Lines
+pub mod BoxText
+pub mod Decided
+pub mod Seats
+pub mod Functions
+pub mod Packets
+pub mod Places
+pub mod Hands
+pub mod Follows
+pub mod Boxes
