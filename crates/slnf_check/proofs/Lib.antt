@@ -1,0 +1,5 @@
+mod Agreement
+mod SameTexts
+mod Leavings
+mod Exactly
+mod Sizes
