@@ -7,7 +7,7 @@ use Rattle.slnf_shelf.specs.Shelf.{Faults, Moves, Only, Rose, SameFiles}
 use Rattle.slnf_shelf.proofs.Laws.{Moves-then, Moves-wider, Rose-after}
 use Rattle.slnf_plan.specs.declared.plan.Plan.{Plan}
 use Rattle.slnf_top.specs.declared.statuses.Status.{Status}
-use Rattle.slnf_top.specs.declared.inputs.Given.{Given}
+use Rattle.slnf_check.specs.declared.given.Given.{Given}
 use Rattle.slnf_top.specs.declared.inputs.Captures.{Captures}
 use Rattle.slnf_top.specs.declared.inputs.Tally.{Tally}
 use Rattle.slnf_top.specs.Readings.{Input, PlanFile, captures_in, name_of, reading_of, no_tally}
@@ -55,7 +55,7 @@ refused_plan plan names a b held ended h =
     h
 
 -- what passed by what was held later passed by what was held before
-passed_earlier : (held middle : Holds) (inputs : List Input) (first last : Tally) → SameFiles held middle →
+pub passed_earlier : (held middle : Holds) (inputs : List Input) (first last : Tally) → SameFiles held middle →
     HavePassed middle inputs first last → HavePassed held inputs first last
 passed_earlier held middle [] first last same p = p
 passed_earlier held middle (input ∷ inputs) first last same p = (

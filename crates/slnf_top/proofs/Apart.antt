@@ -5,10 +5,10 @@ use Rattle.std.proofs.lemmas.Fmt.{decimal_injective}
 use Rattle.std.proofs.lemmas.List.{append_cancel_left, append_cancel_right}
 use Rattle.slnf_base.specs.declared.packets.Verdict.{Verdict}
 use Rattle.slnf_access.specs.declared.requests.Entry.{Entry}
-use Rattle.slnf_top.specs.declared.inputs.Given.{Given}
+use Rattle.slnf_check.specs.declared.given.Given.{Given}
 use Rattle.slnf_top.specs.declared.outputs.File.{File}
 use Rattle.slnf_top.specs.Words.{PlanWords, Step}
-use Rattle.slnf_top.specs.Names.{capture_name, capture_names, verdicts_name, journal_name, summary_name}
+use Rattle.slnf_top.specs.Names.{capture_name, capture_names, verdicts_name, journal_name, standard_output}
 use Rattle.slnf_top.specs.Effects.{IsAmong, IsOutput}
 use Rattle.slnf_journal.specs.Journal.{journal_text}
 use Rattle.slnf_journal.specs.Verdicts.{verdicts_text}
@@ -40,7 +40,7 @@ journal_last : (out : List ℕ) → last_byte (journal_name out) ≡ 108
 unfolding last_byte
 journal_last out = last-append out 46 (106 ∷ 111 ∷ 117 ∷ 114 ∷ 110 ∷ 97 ∷ 108 ∷ [])
 
-summary_last : last_byte summary_name ≡ 45
+summary_last : last_byte standard_output ≡ 45
 unfolding last_byte
 summary_last = refl
 
@@ -56,7 +56,7 @@ capture_journal : (out : List ℕ) (lane : ℕ) → capture_name out lane ≢ jo
 capture_journal out lane h =
     below 108 112 (omega arith) (sym (sym (capture_last out lane) ∙ ap last_byte h ∙ journal_last out))
 
-capture_summary : (out : List ℕ) (lane : ℕ) → capture_name out lane ≢ summary_name
+capture_summary : (out : List ℕ) (lane : ℕ) → capture_name out lane ≢ standard_output
 capture_summary out lane h =
     below 45 112 (omega arith) (sym (sym (capture_last out lane) ∙ ap last_byte h ∙ summary_last))
 
@@ -64,10 +64,10 @@ verdicts_journal : (out : List ℕ) → verdicts_name out ≢ journal_name out
 verdicts_journal out h =
     below 108 115 (omega arith) (sym (sym (verdicts_last out) ∙ ap last_byte h ∙ journal_last out))
 
-verdicts_summary : (out : List ℕ) → verdicts_name out ≢ summary_name
+verdicts_summary : (out : List ℕ) → verdicts_name out ≢ standard_output
 verdicts_summary out h = below 45 115 (omega arith) (sym (sym (verdicts_last out) ∙ ap last_byte h ∙ summary_last))
 
-journal_summary : (out : List ℕ) → journal_name out ≢ summary_name
+journal_summary : (out : List ℕ) → journal_name out ≢ standard_output
 journal_summary out h = below 45 108 (omega arith) (sym (sym (journal_last out) ∙ ap last_byte h ∙ summary_last))
 
 -- two lanes have two names
@@ -136,7 +136,7 @@ captures_apart out first last (g ∷ given) (v ∷ verdicts) tail fits few apart
 abbrev last_files : List ℕ → List ℕ → List ℕ → List ℕ → List File
 last_files out verdicts journal summary =
     record { name = verdicts_name out; text = verdicts } ∷ record { name = journal_name out; text = journal } ∷
-    record { name = summary_name; text = summary } ∷ []
+    record { name = standard_output; text = summary } ∷ []
 
 tail_apart : (out : List ℕ) (verdicts journal summary : List ℕ) → AreApart (last_files out verdicts journal summary)
 tail_apart out verdicts journal summary = (
@@ -201,7 +201,7 @@ pub named_output : (words : PlanWords) (given : List Given) (verdicts : List (Li
     IsOutput (Step words) name
 named_output words given verdicts journal name same h =
     let captures : List (List ℕ) = capture_names words.out 0 words.captures in
-    let tail : List (List ℕ) = verdicts_name words.out ∷ journal_name words.out ∷ summary_name ∷ [] in
+    let tail : List (List ℕ) = verdicts_name words.out ∷ journal_name words.out ∷ standard_output ∷ [] in
     elim (named-append (capture_files words.out 0 given verdicts)
     (last_files words.out (verdicts_text verdicts) (journal_text journal) (summary_text verdicts journal))
     name h) [

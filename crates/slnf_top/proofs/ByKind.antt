@@ -2,7 +2,7 @@
 use Rattle.std.proofs.Common.{◌≡◌, refl, sym, subst}
 use Rattle.slnf_top.specs.declared.statuses.Status.{Status}
 use Rattle.slnf_top.specs.declared.statuses.Status.TheVariants as status
-use Rattle.slnf_top.specs.Kinds.{Kind, Whole, Formless, Refusing, Unread, Unwritten, Wanting, kind_of, HasRead, MayWrite}
+use Rattle.slnf_top.specs.Kinds.{Kind, Whole, Formless, Refusing, Broken, Unread, Unwritten, Wanting, kind_of, HasRead, MayWrite}
 use Rattle.slnf_top.specs.Refused.{RefusesBy, Refuses, StopsBy, StopsWriting}
 
 -- a kind that has but one status has this one
@@ -10,6 +10,7 @@ abbrev IsOne : Kind → Status → Type 0
 IsOne Whole s = Unit {0}
 IsOne Formless s = s ≡ status.Usage
 IsOne Refusing s = Unit {0}
+IsOne Broken s = Unit {0}
 IsOne Unread s = s ≡ status.ReadFault
 IsOne Unwritten s = s ≡ status.WriteFault
 IsOne Wanting s = s ≡ status.NoMemory
@@ -23,6 +24,7 @@ only (status.CaptureBad lane error) = tt
 only status.ReadFault = refl
 only status.WriteFault = refl
 only status.NoMemory = refl
+only (status.Refused refusal) = tt
 only (status.OverLimit limit count) = tt
 
 pub formless_is : (s : Status) → kind_of s ≡ Formless → s ≡ status.Usage
@@ -51,6 +53,7 @@ refused_reads : (P F : Type 0) (k : Kind) → RefusesBy P F k → HasRead k → 
 refused_reads P F Whole h r = h
 refused_reads P F Formless h r = h
 refused_reads P F Refusing h r = r
+refused_reads P F Broken h r = h
 refused_reads P F Unread h r = r
 refused_reads P F Unwritten h r = h
 refused_reads P F Wanting h r = r
@@ -67,6 +70,7 @@ stopped_writes : (P : Type 0) (k : Kind) → StopsBy P k → ¬ MayWrite k → �
 stopped_writes P Whole h not = h
 stopped_writes P Formless h not = h
 stopped_writes P Refusing h not = h
+stopped_writes P Broken h not = h
 stopped_writes P Unread h not = h
 stopped_writes P Unwritten h not = not tt
 stopped_writes P Wanting h not = not tt

@@ -11,3 +11,7 @@ pub mod Numbers
 pub mod Stepping
 pub mod NoneLeft
 pub mod Loading
+pub mod Behind
+pub mod RunFiles
+pub mod Judging
+pub mod Exact

@@ -22,7 +22,7 @@ use Rattle.slnf_shelf.proofs.Laws.{Moves-still}
 use Rattle.slnf_flight.specs.declared.lanes.Lane.{Lane}
 use Rattle.slnf_flight.specs.declared.outcomes.Outcome.{Outcome}
 use Rattle.slnf_flight.specs.Lanes.{packet_count}
-use Rattle.slnf_top.specs.declared.inputs.Given.{Given}
+use Rattle.slnf_check.specs.declared.given.Given.{Given}
 use Rattle.slnf_top.specs.declared.loads.LoadInputs.{LoadInputs}
 use Rattle.slnf_top.specs.declared.outputs.File.{File}
 use Rattle.slnf_top.specs.declared.steps.Run.{Run}
@@ -31,7 +31,8 @@ use Rattle.slnf_top.specs.Limits.{plan_limit}
 use Rattle.slnf_top.specs.Readings.{no_tally}
 use Rattle.slnf_top.specs.Reached.{Holds}
 use Rattle.slnf_top.specs.Effects.{IsOutput, Reads}
-use Rattle.slnf_top.specs.Inputs.{AreTold, AreRead, IsLaneOf, AreLanesOf}
+use Rattle.slnf_check.specs.Given.{AreRead}
+use Rattle.slnf_top.specs.Inputs.{AreTold, IsLaneOf, AreLanesOf}
 use Rattle.slnf_top.specs.Files.{IsNamed, WritesFiles, summary_file, summary_alone}
 use Rattle.slnf_top.specs.Written.{IsOutcome, IsRunFrom, IsLoad, load_source}
 use Rattle.slnf_top.proofs.Apart.{AreApart}

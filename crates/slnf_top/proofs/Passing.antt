@@ -16,7 +16,7 @@ use Rattle.slnf_top.specs.declared.statuses.Status.TheVariants as status
 use Rattle.slnf_top.specs.declared.inputs.Tally.{Tally}
 use Rattle.slnf_top.specs.declared.outputs.File.{File}
 use Rattle.slnf_top.specs.Words.{is_proper, are_captures}
-use Rattle.slnf_top.specs.Kinds.{Kind, Whole, Formless, Refusing, Unread, Unwritten, Wanting, kind_of}
+use Rattle.slnf_top.specs.Kinds.{Kind, Whole, Formless, Refusing, Broken, Unread, Unwritten, Wanting, kind_of}
 use Rattle.slnf_top.specs.Limits.{plan_limit, capture_limit, captures_limit}
 use Rattle.slnf_top.specs.Readings.{PlanFile, CaptureFile, reading_of, with_plan, spelled_plan, plan_reading, spelled_capture, bytes_reading, capture_reading}
 use Rattle.slnf_top.specs.Refused.{RefusesBy, Refuses, RefusesOne, IsBadPlan, IsBadCapture, AreTooMany}
@@ -37,6 +37,7 @@ refuses_by : (P Q F G : Type 0) (kind : Kind) → (P → Q) → (F → G) → Re
 refuses_by P Q F G Whole f g h = h
 refuses_by P Q F G Formless f g h = h
 refuses_by P Q F G Refusing f g h = g h
+refuses_by P Q F G Broken f g h = h
 refuses_by P Q F G Unread f g h = f h
 refuses_by P Q F G Unwritten f g h = h
 refuses_by P Q F G Wanting f g h = h

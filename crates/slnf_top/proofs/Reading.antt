@@ -9,13 +9,14 @@ use Rattle.slnf_shelf.proofs.Laws.{Moves-still, Moves-then, Moves-wider, Rose-af
 use Rattle.slnf_flight.specs.declared.lanes.Lane.{Lane}
 use Rattle.slnf_flight.specs.Lanes.{packet_count}
 use Rattle.slnf_top.specs.declared.statuses.Status.{Status}
-use Rattle.slnf_top.specs.declared.inputs.Given.{Given}
+use Rattle.slnf_check.specs.declared.given.Given.{Given}
 use Rattle.slnf_top.specs.declared.inputs.NextLane.{NextLane}
 use Rattle.slnf_top.specs.declared.inputs.Tally.{Tally}
 use Rattle.slnf_top.specs.Readings.{Input, CaptureFile, captures_in, capture_reading, no_tally}
 use Rattle.slnf_top.specs.Reached.{Holds, HavePassed, IsReached, IsUnread, IsRefused}
 use Rattle.slnf_top.specs.Effects.{IsAmong, ReadsOf}
-use Rattle.slnf_top.specs.Inputs.{AreRead, AreTold, IsTally, IsNext, AreCaptures}
+use Rattle.slnf_check.specs.Given.{AreRead}
+use Rattle.slnf_top.specs.Inputs.{AreTold, IsTally, IsNext, AreCaptures}
 use Rattle.slnf_top.specs.Refused.{Refuses, RefusesOne, RefusesInputs}
 use Rattle.slnf_top.proofs.Passing.{told_weaker, refuses_weaker}
 use Rattle.slnf_top.proofs.Runs.{length_packets_of}

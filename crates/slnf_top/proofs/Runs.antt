@@ -24,10 +24,10 @@ use Rattle.slnf_setting.specs.OneBoxOfPlan.{IsOneBoxOfPlan}
 use Rattle.slnf_setting.specs.Pairs.{KeepsPairs}
 use Rattle.slnf_setting.specs.Replies.{NoneIll}
 use Rattle.slnf_setting.specs.Runs.{RunsWell}
-use Rattle.slnf_top.specs.declared.inputs.Given.{Given}
+use Rattle.slnf_check.specs.declared.given.Given.{Given}
 use Rattle.slnf_top.specs.declared.outputs.File.{File}
 use Rattle.slnf_top.specs.Files.{Texts}
-use Rattle.slnf_top.specs.Inputs.{AreRead, AreGiven, AreSized}
+use Rattle.slnf_check.specs.Given.{AreRead, AreGiven, AreSized}
 use Rattle.slnf_top.specs.Written.{IsOutcome, IsRunOf}
 
 -- how many there are of a mapped list, and of a range

@@ -1,7 +1,7 @@
 -- How `step` ended, by what was read and written.
 use Rattle.std.proofs.Common.{◌≡◌, ℕ, ◌≤◌, List, [], ◌∷◌, length, map, refl, ap, sym, ◌∙◌, subst, arith}
 use Rattle.slnf_shelf.specs.Shelf.{Faults, Moves, SameFiles}
-use Rattle.slnf_top.specs.declared.inputs.Given.{Given}
+use Rattle.slnf_check.specs.declared.given.Given.{Given}
 use Rattle.slnf_top.specs.declared.inputs.Inputs.{Inputs}
 use Rattle.slnf_top.specs.declared.outputs.File.{File}
 use Rattle.slnf_top.specs.declared.steps.Run.{Run}
@@ -11,13 +11,14 @@ use Rattle.slnf_top.specs.Reached.{Holds}
 use Rattle.slnf_top.specs.Effects.{IsOutput, ReadsOf, Reads}
 use Rattle.slnf_top.specs.Inputs.{AreTold, AreInputs}
 use Rattle.slnf_top.specs.Files.{files_of, IsNamed, WritesFiles}
-use Rattle.slnf_top.specs.Written.{IsRunOf, Ran, IsRunFrom, step_source, verdicts_in}
+use Rattle.slnf_top.specs.Checked.{named_source}
+use Rattle.slnf_top.specs.Written.{IsRunOf, Ran, IsRunFrom, verdicts_in}
 use Rattle.slnf_top.proofs.Apart.{AreApart, files_apart, named_output}
 use Rattle.slnf_top.proofs.Ending.{WritesRun}
 use Rattle.slnf_top.proofs.Runs.{read_length}
 
 -- captures by their names
-names_are : (names : List (List ℕ)) → map name_of (captures_in names) ≡ names
+pub names_are : (names : List (List ℕ)) → map name_of (captures_in names) ≡ names
 names_are [] = refl
 names_are (name ∷ names) = ap (λ (ns : List (List ℕ)). name ∷ ns) (names_are names)
 
@@ -28,7 +29,7 @@ input_reads words a b moved =
     subst (λ (ns : List (List ℕ)). Moves (ReadsOf (words.plan ∷ ns)) a b) (sym (names_are words.captures)) moved
 
 -- there are as many captures as names
-told_length : (held : Holds) (names : List (List ℕ)) (given : List Given) → AreTold (map held names) given →
+pub told_length : (held : Holds) (names : List (List ℕ)) (given : List Given) → AreTold (map held names) given →
     length given ≡ length names
 told_length held [] [] h = refl
 told_length held [] (g ∷ given) h = absurd h
@@ -47,7 +48,7 @@ module _ (words : PlanWords) (inputs : Inputs) (run : Run) (a b c : Faults) (hel
     (are : AreInputs words.plan words.captures held inputs)
     (is : IsRunOf (files_of words.out) inputs.plan inputs.captures.given inputs.captures.lanes run) where
   -- the run that the files tell of
-  ran_by : Ran (step_source words held)
+  ran_by : Ran (named_source words held)
   ran_by = record {
     plan = inputs.plan;
     given = inputs.captures.given;
@@ -57,7 +58,7 @@ module _ (words : PlanWords) (inputs : Inputs) (run : Run) (a b c : Faults) (hel
     explained = is.explained;
   }
 
-  run_by : IsRunFrom (files_of words.out) (step_source words held) run
+  run_by : IsRunFrom (files_of words.out) (named_source words held) run
   unfolding ran_by
   run_by = record { ran = ran_by; files = is.files; left = is.left }
 
@@ -80,7 +81,7 @@ module _ (words : PlanWords) (inputs : Inputs) (run : Run) (a b c : Faults) (hel
   pub writes_run : (files : List File) → files ≡ run.files → length words.captures ≤ 32 →
       Moves (ReadsOf (words.plan ∷ words.captures)) a b → b ≡ a → SameFiles held middle →
       Moves (WritesFiles files) b c → ((other : List ℕ) → ¬ IsNamed files other → holds other ≡ middle other) →
-      WritesRun (Step words) (files_of words.out) (step_source words held) run a b c held middle holds
+      WritesRun (Step words) (files_of words.out) (named_source words held) run a b c held middle holds
   writes_run files same_files few read still same write others = record {
     read = input_reads words a b read;
     still = still;

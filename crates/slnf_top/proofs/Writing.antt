@@ -6,7 +6,7 @@ use Rattle.slnf_shelf.specs.Shelf.{Faults, Moves, Rose, SameFiles, SameOthers, W
 use Rattle.slnf_shelf.proofs.Laws.{Moves-still, Moves-then, Moves-wider, Rose-after}
 use Rattle.slnf_top.specs.declared.statuses.Status.{Status}
 use Rattle.slnf_top.specs.declared.outputs.File.{File}
-use Rattle.slnf_top.specs.Kinds.{Kind, Whole, Formless, Refusing, Unread, Unwritten, Wanting, kind_of}
+use Rattle.slnf_top.specs.Kinds.{Kind, Whole, Formless, Refusing, Broken, Unread, Unwritten, Wanting, kind_of}
 use Rattle.slnf_top.specs.Reached.{Holds}
 use Rattle.slnf_top.specs.Effects.{RoseAt}
 use Rattle.slnf_top.specs.Files.{HoldFiles, names_of, IsNamed, WritesFiles, Wrote, WroteOne, WroteSome, StoppedAt}
@@ -104,6 +104,7 @@ stops_by : (P Q : Type 0) (kind : Kind) → (P → Q) → StopsBy P kind → Sto
 stops_by P Q Whole f h = h
 stops_by P Q Formless f h = h
 stops_by P Q Refusing f h = h
+stops_by P Q Broken f h = h
 stops_by P Q Unread f h = h
 stops_by P Q Unwritten f h = f h
 stops_by P Q Wanting f h = h

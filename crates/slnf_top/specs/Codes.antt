@@ -12,4 +12,5 @@ code_of (status.CaptureBad lane error) = 4
 code_of status.ReadFault = 5
 code_of status.WriteFault = 6
 code_of status.NoMemory = 7
+code_of (status.Refused refusal) = 9
 code_of (status.OverLimit limit count) = 10

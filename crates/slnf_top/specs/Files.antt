@@ -9,9 +9,9 @@ use Rattle.slnf_flight.specs.Output.{output_of}
 use Rattle.slnf_journal.specs.Journal.{journal_text}
 use Rattle.slnf_journal.specs.Verdicts.{verdicts_text}
 use Rattle.slnf_journal.specs.Summary.{summary_text}
-use Rattle.slnf_top.specs.declared.inputs.Given.{Given}
+use Rattle.slnf_check.specs.declared.given.Given.{Given}
 use Rattle.slnf_top.specs.declared.outputs.File.{File}
-use Rattle.slnf_top.specs.Names.{capture_name, verdicts_name, journal_name, summary_name}
+use Rattle.slnf_top.specs.Names.{capture_name, verdicts_name, journal_name, standard_output}
 use Rattle.slnf_top.specs.Effects.{IsAmong}
 use Rattle.slnf_top.specs.Reached.{Holds}
 
@@ -25,7 +25,7 @@ capture_files out lane (given ∷ more) (verdicts ∷ others) =
 
 -- the summary's file
 abbrev pub summary_file : List (List Verdict) → List Entry → File
-summary_file verdicts journal = record { name = summary_name; text = summary_text verdicts journal }
+summary_file verdicts journal = record { name = standard_output; text = summary_text verdicts journal }
 
 -- the files of a run, in the order in which they are written
 abbrev pub files_of : List ℕ → List Given → List (List Verdict) → List Entry → List File

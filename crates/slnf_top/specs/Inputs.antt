@@ -1,15 +1,13 @@
 -- A plan and captures, with the captures' bytes and their lanes, and how they are read.
-use Rattle.std.specs.Prelude.{◌≡◌, ℕ, ◌≤◌, Option, Some, List, [], ◌∷◌, length, map, Ok, All, IfSome}
-use Rattle.slnf_base.specs.declared.packets.Verdict.{Verdict}
+use Rattle.std.specs.Prelude.{◌≡◌, ℕ, ◌≤◌, Option, Some, List, [], ◌∷◌, length, map, Ok, IfSome}
 use Rattle.slnf_pcap.specs.declared.capture.Capture.{Capture}
-use Rattle.slnf_pcap.specs.Captures.{capture_of, LiesIn}
 use Rattle.slnf_plan.specs.declared.plan.Plan.{Plan}
 use Rattle.slnf_plan.specs.Plain.{plain}
 use Rattle.slnf_plan.specs.Reading.{plan_of_bytes}
 use Rattle.slnf_flight.specs.declared.lanes.Lane.{Lane}
-use Rattle.slnf_flight.specs.Captures.{packets_of}
 use Rattle.slnf_flight.specs.Lanes.{packet_count}
-use Rattle.slnf_top.specs.declared.inputs.Given.{Given}
+use Rattle.slnf_check.specs.declared.given.Given.{Given}
+use Rattle.slnf_check.specs.Given.{IsRead, AreRead}
 use Rattle.slnf_top.specs.declared.inputs.NextLane.{NextLane}
 use Rattle.slnf_top.specs.declared.inputs.Captures.{Captures}
 use Rattle.slnf_top.specs.declared.inputs.Inputs.{Inputs}
@@ -17,24 +15,6 @@ use Rattle.slnf_top.specs.declared.inputs.Tally.{Tally}
 use Rattle.slnf_top.specs.Limits.{plan_limit, captures_limit, packets_limit}
 use Rattle.slnf_top.specs.Readings.{PlanFile, captures_in, with_capture, capture_reading, no_tally}
 use Rattle.slnf_top.specs.Reached.{Holds, HavePassed}
-
--- A capture is that of its bytes, in which its header and its records lie.
-pub record IsGiven (given : Given) : Type 0 where
-  pub header : 24 ≤ length given.bytes
-  pub capture : capture_of given.bytes ≡ Ok given.capture
-  pub lie : All (LiesIn given.bytes) given.capture.packets
-
--- A capture and its lane, which has the views of its packets.
-pub record IsRead (given : Given) (lane : Lane) : Type 0 where
-  pub whole : IsGiven given
-  pub views : lane.packets ≡ packets_of given.bytes given.capture
-
--- captures and their lanes, in order
-abbrev pub AreRead : List Given → List Lane → Type 0
-AreRead [] [] = Unit {0}
-AreRead [] (lane ∷ lanes) = ⊥
-AreRead (given ∷ more) [] = ⊥
-AreRead (given ∷ more) (lane ∷ lanes) = IsRead given lane × AreRead more lanes
 
 -- A lane is that of a capture of these bytes.
 pub record IsLaneOf (bytes : List ℕ) (lane : Lane) : Type 0 where
@@ -56,24 +36,19 @@ AreTold (told ∷ others) [] = ⊥
 AreTold (told ∷ others) (given ∷ more) =
     IfSome told (λ bytes. given.bytes ≡ bytes) × AreTold others more
 
+-- these texts, each where it is told
+abbrev pub AreTexts : List (Option (List ℕ)) → List (List ℕ) → Type 0
+AreTexts [] [] = Unit {0}
+AreTexts [] (text ∷ texts) = ⊥
+AreTexts (told ∷ others) [] = ⊥
+AreTexts (told ∷ others) (text ∷ texts) = IfSome told (λ bytes. text ≡ bytes) × AreTexts others texts
+
 -- the shelf tells these bytes under these names
 abbrev pub AreHeld : Holds → List (List ℕ) → List (List ℕ) → Type 0
 AreHeld held [] [] = Unit {0}
 AreHeld held [] (bytes ∷ more) = ⊥
 AreHeld held (name ∷ names) [] = ⊥
 AreHeld held (name ∷ names) (bytes ∷ more) = (held name ≡ Some bytes) × AreHeld held names more
-
--- a verdict for each packet of each capture
-abbrev pub AreSized : List Given → List (List Verdict) → Type 0
-AreSized [] [] = Unit {0}
-AreSized [] (verdicts ∷ others) = ⊥
-AreSized (given ∷ more) [] = ⊥
-AreSized (given ∷ more) (verdicts ∷ others) = (length verdicts ≡ length given.capture.packets) × AreSized more others
-
--- each capture is whole
-abbrev pub AreGiven : List Given → Type 0
-AreGiven [] = Unit {0}
-AreGiven (given ∷ more) = IsGiven given × AreGiven more
 
 -- The plan is that of these bytes, within limit 1.
 pub record IsPlanOf (plan : Plan) (bytes : List ℕ) : Type 0 where

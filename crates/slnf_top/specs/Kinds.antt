@@ -9,6 +9,8 @@ pub data Kind : Type 0 where
   Formless : Kind
   -- The bytes of an input are refused.
   Refusing : Kind
+  -- The files that a run made break a rule.
+  Broken : Kind
   -- A file couldn't be read, or written.
   Unread : Kind
   Unwritten : Kind
@@ -24,6 +26,7 @@ kind_of (status.CaptureBad lane error) = Refusing
 kind_of status.ReadFault = Unread
 kind_of status.WriteFault = Unwritten
 kind_of status.NoMemory = Wanting
+kind_of (status.Refused refusal) = Broken
 kind_of (status.OverLimit limit count) = Refusing
 
 -- all inputs of the command were read before it ended so
@@ -31,6 +34,7 @@ abbrev pub HasRead : Kind → Type 0
 HasRead Whole = Unit {0}
 HasRead Formless = ⊥
 HasRead Refusing = ⊥
+HasRead Broken = Unit {0}
 HasRead Unread = ⊥
 HasRead Unwritten = Unit {0}
 HasRead Wanting = ⊥
@@ -40,6 +44,17 @@ abbrev pub MayWrite : Kind → Type 0
 MayWrite Whole = Unit {0}
 MayWrite Formless = ⊥
 MayWrite Refusing = ⊥
+MayWrite Broken = ⊥
 MayWrite Unread = ⊥
 MayWrite Unwritten = Unit {0}
 MayWrite Wanting = Unit {0}
+
+-- the command did all, or named a rule
+abbrev pub HasJudged : Kind → Type 0
+HasJudged Whole = Unit {0}
+HasJudged Formless = ⊥
+HasJudged Refusing = ⊥
+HasJudged Broken = Unit {0}
+HasJudged Unread = ⊥
+HasJudged Unwritten = ⊥
+HasJudged Wanting = ⊥

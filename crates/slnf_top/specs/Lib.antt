@@ -9,5 +9,7 @@ pub mod Effects
 pub mod Inputs
 pub mod Files
 pub mod Refused
+pub mod Reads
+pub mod Checked
 pub mod Written
 pub mod Outcome

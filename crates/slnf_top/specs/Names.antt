@@ -1,6 +1,6 @@
 -- The names of the files that a command writes.
 use Rattle.std.specs.Prelude.{ℕ, ◌+◌, List, [], ◌∷◌, ◌++◌, codes, decimal}
-use Rattle.slnf_top.specs.Words.{Command, Step, Load}
+use Rattle.slnf_top.specs.Words.{Command, Step, Check, Box, Load}
 
 -- the output capture of a lane
 abbrev pub capture_name : List ℕ → ℕ → List ℕ
@@ -14,9 +14,9 @@ verdicts_name out = out ++ codes ".verdicts"
 abbrev pub journal_name : List ℕ → List ℕ
 journal_name out = out ++ codes ".journal"
 
--- the summary goes to standard output
-abbrev pub summary_name : List ℕ
-summary_name = codes "-"
+-- what a command says goes to standard output
+abbrev pub standard_output : List ℕ
+standard_output = codes "-"
 
 -- the output captures of the lanes of these captures, of which the first has this number
 abbrev pub capture_names : List ℕ → ℕ → List (List ℕ) → List (List ℕ)
@@ -27,5 +27,7 @@ capture_names out lane (capture ∷ captures) = capture_name out lane ∷ captur
 abbrev pub outputs_of : Command → List (List ℕ)
 outputs_of (Step words) =
     capture_names words.out 0 words.captures
-    ++ verdicts_name words.out ∷ journal_name words.out ∷ summary_name ∷ []
-outputs_of (Load words) = summary_name ∷ []
+    ++ verdicts_name words.out ∷ journal_name words.out ∷ standard_output ∷ []
+outputs_of (Check words) = standard_output ∷ []
+outputs_of (Box words) = standard_output ∷ []
+outputs_of (Load words) = standard_output ∷ []

@@ -6,20 +6,28 @@ use Rattle.slnf_pcap.specs.declared.capture.Capture.{Capture}
 use Rattle.slnf_plan.specs.declared.error.PlanError.{PlanError}
 use Rattle.slnf_plan.specs.declared.error.PlanError.TheVariants.{NoMemory as PlanNoMemory}
 use Rattle.slnf_shelf.specs.Shelf.{Faults}
+use Rattle.slnf_check.specs.declared.refusals.CheckError.{CheckError}
+use Rattle.slnf_check.specs.declared.refusals.CheckError.TheVariants as errors
 use Rattle.slnf_top.specs.declared.statuses.Status.{Status}
 use Rattle.slnf_top.specs.declared.statuses.Status.TheVariants as status
-use Rattle.slnf_top.specs.Kinds.{Kind, Whole, Formless, Refusing, Unread, Unwritten, Wanting, kind_of}
+use Rattle.slnf_top.specs.Kinds.{Kind, Whole, Formless, Refusing, Broken, Unread, Unwritten, Wanting, kind_of}
 use Rattle.slnf_top.specs.declared.inputs.Tally.{Tally}
 use Rattle.slnf_top.specs.Readings.{Input, reading_of, plan_reading, capture_reading, packets_reading}
-use Rattle.slnf_top.specs.Reached.{Holds, MayRefuse, IsUnread, IsRefused}
+use Rattle.slnf_top.specs.Reached.{Holds, MayRefuse, IsUnreadFrom, IsRefusedFrom, IsUnread, IsRefused}
 use Rattle.slnf_top.specs.declared.outputs.File.{File}
 use Rattle.slnf_top.specs.Files.{WroteSome, StoppedAt}
+
+-- how a command ends whose files aren't accepted
+abbrev pub status_of_check : CheckError → Status
+status_of_check (errors.Refused refusal) = status.Refused refusal
+status_of_check errors.NoMemory = status.NoMemory
 
 -- a read was refused: its file met a fault (`rose`), memory was wanting, or the bytes give the status (`gives`)
 abbrev pub RefusesBy : Type 0 → Type 0 → Kind → Type 0
 RefusesBy rose gives Whole = ⊥
 RefusesBy rose gives Formless = ⊥
 RefusesBy rose gives Refusing = gives
+RefusesBy rose gives Broken = ⊥
 RefusesBy rose gives Unread = rose
 RefusesBy rose gives Unwritten = ⊥
 RefusesBy rose gives Wanting = Unit {0}
@@ -50,6 +58,11 @@ abbrev pub AreTooMany : Tally → List ℕ → Capture → Status → Type 0
 AreTooMany tally bytes capture refusal =
     ((count : ℕ) × (refusal ≡ status.OverLimit 4 count)) × (packets_reading tally bytes capture ≡ Err refusal)
 
+-- one of these inputs was refused, behind this tally
+abbrev pub RefusesFrom : Tally → Holds → List Input → Faults → Faults → Status → Type 0
+RefusesFrom first held inputs before now ended =
+    Refuses (IsUnreadFrom first held inputs before now) (IsRefusedFrom first held inputs) ended
+
 -- one of these inputs was refused
 abbrev pub RefusesInputs : Holds → List Input → Faults → Faults → Status → Type 0
 RefusesInputs held inputs before now ended =
@@ -69,6 +82,7 @@ abbrev pub StopsBy : Type 0 → Kind → Type 0
 StopsBy rose Whole = ⊥
 StopsBy rose Formless = ⊥
 StopsBy rose Refusing = ⊥
+StopsBy rose Broken = ⊥
 StopsBy rose Unread = ⊥
 StopsBy rose Unwritten = rose
 StopsBy rose Wanting = Unit {0}

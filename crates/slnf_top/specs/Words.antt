@@ -1,9 +1,9 @@
 -- The words of the commands.
-use Rattle.std.specs.Prelude.{ℕ, ◌^◌, Bool, false, not, ◌&&◌, ◌==◌, nat_le, if◌then◌else◌, Option, Some, None, option_and_then, List, [], ◌∷◌, length, map, codes, string_bytes}
+use Rattle.std.specs.Prelude.{ℕ, ◌^◌, Bool, false, not, ◌&&◌, ◌==◌, nat_le, if◌then◌else◌, Option, Some, None, option_map, option_and_then, List, [], ◌∷◌, length, map, codes, string_bytes}
 use Rattle.std.specs.List.{list_all}
 use Rattle.std.specs.Str.{bytes_eq}
 use Rattle.slnf_journal.specs.Fields.{number_of}
-use Rattle.slnf_top.specs.declared.forms.PlanWords.{PlanWords as StepWords}
+use Rattle.slnf_top.specs.declared.forms.PlanWords.{PlanWords as NamedFiles}
 use Rattle.slnf_top.specs.declared.forms.LoadWords.{LoadWords as NumberWords}
 use Rattle.slnf_top.specs.declared.forms.CommandWords.{CommandWords}
 use Rattle.slnf_top.specs.declared.forms.CommandWords.TheVariants as read
@@ -32,16 +32,18 @@ pub record LoadWords : Type 0 where
 -- A command, with what its words name.
 pub data Command : Type 0 where
   Step : PlanWords → Command
+  Check : PlanWords → Command
+  Box : PlanWords → Command
   Load : LoadWords → Command
 
--- `step` of these words, where they are PLAN OUT IN..: the plan, the front of the outputs' names, and 1 to 32
+-- what these words name, where they are PLAN OUT IN..: the plan, the front of the names of a run's files, and 1 to 32
 -- captures, each a word that may name a file
-abbrev pub step_of : List (List ℕ) → Option Command
-step_of [] = None
-step_of (plan ∷ []) = None
-step_of (plan ∷ out ∷ captures) =
+abbrev pub plan_words_of : List (List ℕ) → Option PlanWords
+plan_words_of [] = None
+plan_words_of (plan ∷ []) = None
+plan_words_of (plan ∷ out ∷ captures) =
     if is_proper plan && is_proper out && are_captures captures
-    then Some (Step (record { plan = plan; out = out; captures = captures }))
+    then Some (record { plan = plan; out = out; captures = captures })
     else None
 
 infixl 10 ◌>>=◌
@@ -64,7 +66,9 @@ load_of (number ∷ lanes ∷ packets ∷ more ∷ words) = None
 -- the command that has this name, where the words behind it are of its form
 abbrev pub command_named : List ℕ → List (List ℕ) → Option Command
 command_named name words =
-    if bytes_eq name (codes "step") then step_of words
+    if bytes_eq name (codes "step") then option_map Step (plan_words_of words)
+    else if bytes_eq name (codes "check") then option_map Check (plan_words_of words)
+    else if bytes_eq name (codes "box") then option_map Box (plan_words_of words)
     else if bytes_eq name (codes "load") then load_of words
     else None
 
@@ -74,13 +78,15 @@ command_of [] = None
 command_of (name ∷ words) = command_named name words
 
 -- what the words that were read name
-abbrev pub step_named : StepWords → PlanWords
-step_named words =
+abbrev pub plan_named : NamedFiles → PlanWords
+plan_named words =
     record { plan = words.plan.now; out = words.out.now; captures = map string_bytes words.captures.now }
 
 abbrev pub load_named : NumberWords → LoadWords
 load_named words = record { number = words.number; lanes = words.lanes; packets = words.packets }
 
 abbrev pub spelled : CommandWords → Command
-spelled (read.Step words) = Step (step_named words)
+spelled (read.Step words) = Step (plan_named words)
+spelled (read.Check words) = Check (plan_named words)
+spelled (read.Box words) = Box (plan_named words)
 spelled (read.Load words) = Load (load_named words)

@@ -18,13 +18,14 @@ use Rattle.slnf_setting.specs.Runs.{IsRunOfPlan}
 use Rattle.slnf_shelf.specs.Shelf.{Faults}
 use Rattle.slnf_top.specs.declared.statuses.Status.{Status}
 use Rattle.slnf_top.specs.declared.statuses.Status.TheVariants as status
-use Rattle.slnf_top.specs.declared.inputs.Given.{Given}
+use Rattle.slnf_check.specs.declared.given.Given.{Given}
 use Rattle.slnf_top.specs.declared.loads.LoadInputs.{LoadInputs}
 use Rattle.slnf_top.specs.declared.steps.Run.{Run}
 use Rattle.slnf_top.specs.declared.outputs.File.{File}
-use Rattle.slnf_top.specs.Words.{PlanWords, LoadWords, Command, Step, Load}
+use Rattle.slnf_top.specs.Words.{LoadWords, Command, Step, Check, Box, Load}
 use Rattle.slnf_top.specs.Reached.{Holds}
 use Rattle.slnf_top.specs.Inputs.{Source, WorksOn, IsPlanOf, AreLanesOf}
+use Rattle.slnf_top.specs.Checked.{named_source, IsCheck, IsBox, Names, IsBroken, IsBrokenJournal, HoldsAccepted, HoldsLines, StopsAccepted, StopsLines}
 use Rattle.slnf_top.specs.Files.{Texts, files_of, summary_alone, HoldFiles, StoppedAt}
 
 -- the verdicts of a journal
@@ -92,10 +93,6 @@ pub record IsStopped (texts : Texts) (source : Source) (before now : Faults) (he
   pub ran : Ran source
   pub stopped : StoppedAt (files_by texts source ran) before now held holds
 
--- `step` works on what its inputs hold, where the shelf tells them
-abbrev pub step_source : PlanWords → Holds → Source
-step_source words held = record { plan = held words.plan; captures = map held words.captures }
-
 -- `load` works on the plan and the captures of its number
 abbrev pub load_source : LoadWords → Source
 load_source words = record {
@@ -111,14 +108,33 @@ pub record IsLoad (words : LoadWords) (load : LoadInputs) : Type 0 where
   pub packets : packet_count load.lanes ≡ words.lanes * words.packets
 
 -- What the files hold after a command that did all. `step` writes the texts of its run, and `load` the summary alone,
--- and leaves no packet.
+-- and leaves no packet. `check` and `box` end with Ok, and write what they found.
 abbrev pub WroteAll : Command → Status → Holds → Holds → Type 0
-WroteAll (Step words) ended held holds = IsWritten (files_of words.out) (step_source words held) ended held holds
+WroteAll (Step words) ended held holds = IsWritten (files_of words.out) (named_source words held) ended held holds
+WroteAll (Check words) ended held holds = (ended ≡ status.Ok) × HoldsAccepted words held holds
+WroteAll (Box words) ended held holds = (ended ≡ status.Ok) × HoldsLines words held holds
 WroteAll (Load words) ended held holds =
     (ended ≡ status.Ok) × IsWritten summary_alone (load_source words) ended held holds
 
 -- and after one whose writing met a fault
 abbrev pub WroteFront : Command → Faults → Faults → Holds → Holds → Type 0
 WroteFront (Step words) before now held holds =
-    IsStopped (files_of words.out) (step_source words held) before now held holds
+    IsStopped (files_of words.out) (named_source words held) before now held holds
+WroteFront (Check words) before now held holds = StopsAccepted words before now held holds
+WroteFront (Box words) before now held holds = StopsLines words before now held holds
 WroteFront (Load words) before now held holds = IsStopped summary_alone (load_source words) before now held holds
+
+-- What is so when a rule is broken: `check` names the first of all rules that the files break, and `box` the first that
+-- the journal breaks. The other commands name none.
+abbrev pub WasBroken : Command → Status → Holds → Type 0
+WasBroken (Step words) ended held = ⊥
+WasBroken (Check words) ended held = Names (IsBroken words held) ended
+WasBroken (Box words) ended held = Names (IsBrokenJournal words held) ended
+WasBroken (Load words) ended held = ⊥
+
+-- what `check` and `box` answered is exact
+abbrev pub IsExact : Command → Status → Holds → Type 0
+IsExact (Step words) ended held = Unit {0}
+IsExact (Check words) ended held = IsCheck words held ended
+IsExact (Box words) ended held = IsBox words held ended
+IsExact (Load words) ended held = Unit {0}

@@ -8,8 +8,13 @@
 //! - `rules COUNT RULE % RULES`: a firewall's with so many times this rule and then these, and one instance.
 //! - `in LANES COUNT LETTERS RECORDS`: so many more captures, each of this header and so many times these records.
 //! - `flows`: one more capture, of 16,384 datagrams: from each of 64 ports of 256 hosts.
-//! - `ends CODE LINE`: the command runs on the plan and these captures, and ends with this status and fault line.
+//! - `ends CODE LINE`: `step` runs on the plan and these captures, and ends with this status and fault line. Where it left
+//!   files, and no call is going to fail, `check` accepts them.
+//! - `runs NAME CODE LINE`: so the command of this name ends. `breaks NAME RULE PLACE`: it refuses the files so.
+//!   `unread PLACE TEXT`: `check` refuses this text of a journal by rule 1.
 //! - `was STATUS`: so the code's own name of it is. `words CODE WORDS`: the command ends so on these words.
+//! - `put NAME TEXT`: the file holds this text. `swap NAME OLD%NEW`: it has one text in the place of another.
+//!   `cut NAME`: its last byte is gone.
 //! - `holds NAME LETTERS`, `says NAME TEXT`, `none NAME`: such a capture, such a text or nothing is there.
 //! - `flowed NAME`: the verdicts are that each of the 16,384 datagrams is sent on from its own port.
 //!
@@ -17,6 +22,8 @@
 //! semicolon for a line's end.
 
 pub mod balancer;
+pub mod broken;
+pub mod checked;
 pub mod fault;
 pub mod firewall;
 pub mod many;

@@ -26,5 +26,7 @@ pub struct LoadWords {
 #[derive(Debug, Drop)]
 pub enum CommandWords<'a> {
     Step(PlanWords<'a>),
+    Check(PlanWords<'a>),
+    Box(PlanWords<'a>),
     Load(LoadWords),
 }

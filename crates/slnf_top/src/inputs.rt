@@ -3,13 +3,15 @@ ghost use Rattle.slnf_shelf.specs.Shelf.{Moves, Only, Rose, SameFiles};
 ghost use Rattle.slnf_top.specs.Limits.{plan_limit, capture_limit, captures_limit, packets_limit};
 ghost use Rattle.slnf_top.specs.Readings.{PlanFile, CaptureFile, captures_in, no_tally};
 ghost use Rattle.slnf_top.specs.Refused.{Refuses, IsOver, RefusesOne, RefusesInputs, IsBadPlan, IsBadCapture, AreTooMany, StaysUnless};
-ghost use Rattle.slnf_top.specs.Inputs.{IsGiven, IsPlanOf, IsNext, AreCaptures, AreInputs};
+ghost use Rattle.slnf_check.specs.Given.{IsGiven};
+ghost use Rattle.slnf_top.specs.Inputs.{IsPlanOf, IsNext, AreCaptures, AreInputs};
 ghost use Rattle.slnf_top.specs.Effects.{ReadsOf};
 
 use crate::statuses::Status;
 use slnf_base::Row;
+use slnf_check::Given;
 use slnf_flight::{Lane, make_lane};
-use slnf_pcap::{Capture, PcapError, read_capture};
+use slnf_pcap::{PcapError, read_capture};
 use slnf_plan::{Plan, PlanError, read_plan};
 use slnf_shelf::{Call, Shelf, WholeError, read_whole};
 use std::alloc::Global;
@@ -18,20 +20,13 @@ use std::alloc::Global;
 const PLAN_LIMIT: u64 = 1_048_576;
 
 /// Limit 2: the bytes of one capture.
-const CAPTURE_LIMIT: u64 = 67_108_864;
+pub(crate) const CAPTURE_LIMIT: u64 = 67_108_864;
 
 /// Limit 3: the bytes of all captures of a run.
 const CAPTURES_LIMIT: u64 = 268_435_456;
 
 /// Limit 4: the packets of a run.
 const PACKETS_LIMIT: u64 = 1_048_576;
-
-/// A capture that was read, with its bytes.
-#[derive(Debug, Drop)]
-pub struct Given {
-    pub bytes: Row<u8>,
-    pub capture: Capture,
-}
 
 /// How many captures were read, and how many bytes and packets they have.
 #[derive(Clone, Copy, Debug)]
@@ -87,14 +82,14 @@ pub fn read_inputs<S: Shelf>(
 }
 
 /// Reads a file whole, within the limit of this number.
-fn read_within<S: Shelf>(
+pub(crate) fn read_within<S: Shelf>(
     alloc: Global,
     shelf: &mut S,
     name: &str,
     limit: u8,
     most: u64,
 ) -> Result<Row<u8>, Status>
-    requires { most < 2 ^ 31 }
+    requires { most < 2 ^ 32 }
     ensures counts { Moves (Only Call.Read name.now) (S.faults shelf.old) (S.faults shelf.new) }
     ensures no_fault { OnOk result (S.faults shelf.new ≡ S.faults shelf.old) }
     ensures still { IfErr result (StaysUnless Status.ReadFault (S.faults shelf.old) (S.faults shelf.new)) }

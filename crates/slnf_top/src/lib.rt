@@ -3,6 +3,9 @@
 
 #[cfg(test)]
 mod cases;
+#[cfg(test)]
+mod check_tests;
+mod checks;
 mod commands;
 mod forms;
 mod inputs;
@@ -15,6 +18,7 @@ mod load_tests;
 mod loads;
 mod names;
 mod outputs;
+mod products;
 mod statuses;
 mod steps;
 #[cfg(test)]

@@ -3,15 +3,15 @@ ghost use Rattle.slnf_shelf.specs.Shelf.{Moves, Rose, SameOthers, Writes};
 ghost use Rattle.slnf_run.specs.Verdicts.{left_in};
 ghost use Rattle.slnf_flight.specs.Output.{output_of};
 ghost use Rattle.slnf_top.specs.Names.{capture_name};
-ghost use Rattle.slnf_top.specs.Inputs.{IsGiven, AreGiven, AreSized};
+ghost use Rattle.slnf_check.specs.Given.{IsGiven, AreGiven, AreSized};
 ghost use Rattle.slnf_top.specs.Files.{capture_files, files_of, summary_file, names_of, IsNamed, WritesFiles, Wrote, WroteOne};
 ghost use Rattle.slnf_top.specs.Effects.{RoseAt};
 ghost use Rattle.slnf_top.specs.Refused.{StopsWriting, StaysUnless, StopsWithin, StopsAt};
 
-use crate::inputs::Given;
 use crate::names;
 use crate::statuses::Status;
 use slnf_base::{NoMemory, Row, Text, Verdict};
+use slnf_check::Given;
 use slnf_flight::{Outcome, write_output};
 use slnf_journal::{write_journal, write_summary, write_verdicts};
 use slnf_shelf::{Call, Shelf, ShelfError, write_whole};
@@ -26,7 +26,7 @@ pub struct File {
 
 impl File {
     /// The file of a name and a text.
-    fn of(name: String, text: Vec<u8>) -> File
+    pub(crate) fn of(name: String, text: Vec<u8>) -> File
         ensures { result ≡ record { name = string_bytes name; text = text.items } }
     {
         File {

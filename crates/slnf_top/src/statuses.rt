@@ -2,6 +2,7 @@ ghost use Rattle.std.specs.Prelude.{◌≡◌};
 ghost use Rattle.slnf_top.specs.declared.statuses.Status.TheVariants.{NoMemory as WantsMemory};
 
 use slnf_base::NoMemory;
+use slnf_check::{CheckError, Refusal};
 use slnf_pcap::PcapError;
 use slnf_plan::PlanError;
 use std::alloc::{AllocError, AllocFailed};
@@ -26,9 +27,12 @@ pub enum Status {
     WriteFault,
     /// Memory was wanting.
     NoMemory,
+    /// The files of a run break this rule first, at this place.
+    Refused(Refusal),
     /// There is more to read than the limit with this number allows: so many bytes of the plan (1), of one capture
-    /// (2) or of the captures up to and with this one (3), or so many packets of these captures (4). Of a file that
-    /// is too long, one byte more than its limit is read and counted.
+    /// or output (2), or of the captures up to and with this one (3), so many packets of these captures (4), or so many
+    /// bytes of a journal (5) or of verdicts (6) that are read back. Of a file that is too long, one byte more than its
+    /// limit is read and counted.
     OverLimit { limit: u8, count: u64 },
 }
 
@@ -48,6 +52,7 @@ impl Status {
             Status::ReadFault => 5,
             Status::WriteFault => 6,
             Status::NoMemory => 7,
+            Status::Refused(_) => 9,
             Status::OverLimit { limit: _, count: _ } => 10,
         }
     }
@@ -77,6 +82,19 @@ impl<T: Drop> From<AllocFailed<T>> for Status {
     }
 }
 
+impl From<CheckError> for Status {
+    ghost use Rattle.slnf_top.specs.Refused.{status_of_check};
+
+    ghost from_gives = { λ error status. status ≡ status_of_check error };
+
+    fn from(error: CheckError) -> Status {
+        match error {
+            CheckError::Refused(refusal) => Status::Refused(refusal),
+            CheckError::NoMemory => Status::NoMemory,
+        }
+    }
+}
+
 /// The number of a capture's error, 1 to 7 in the order in which they are tried. Want of memory has none.
 fn error_number(error: &PcapError) -> u8 {
     match error {
@@ -101,7 +119,7 @@ impl fmt::Display for Status {
             Status::Usage => {
                 writeln!(
                     f,
-                    "slnf: usage: step PLAN OUT IN, or load NUMBER LANES PACKETS"
+                    "slnf: usage: step, check or box PLAN OUT IN, or load NUMBER LANES PACKETS"
                 )
             }
             Status::PlanBad(error) => {
@@ -116,6 +134,7 @@ impl fmt::Display for Status {
             Status::ReadFault => writeln!(f, "slnf: read fault"),
             Status::WriteFault => writeln!(f, "slnf: write fault"),
             Status::NoMemory => writeln!(f, "slnf: no memory"),
+            Status::Refused(refusal) => writeln!(f, "slnf: refused by rule {}", refusal.rule),
             Status::OverLimit { limit, count: _ } => writeln!(f, "slnf: over limit {limit}"),
         }
     }

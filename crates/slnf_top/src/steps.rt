@@ -1,6 +1,6 @@
 ghost use Rattle.std.specs.Prelude.{◌≤◌, length, IfOk};
 ghost use Rattle.slnf_flight.specs.Lanes.{packet_count};
-ghost use Rattle.slnf_top.specs.Inputs.{AreRead};
+ghost use Rattle.slnf_check.specs.Given.{AreRead};
 ghost use Rattle.slnf_top.specs.Files.{files_of};
 ghost use Rattle.slnf_top.specs.Written.{IsOutcome, IsRunOf};
 

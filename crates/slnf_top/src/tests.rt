@@ -12,12 +12,13 @@ use std::alloc::Global;
 use std::hash::RandomState;
 use std::test::Fail as Failed;
 
-/// The files, and the captures among them.
+/// The files, the captures among them, and whether a call is going to fail.
 #[derive(Drop)]
 struct Scene {
     alloc: Global,
     state: RandomState,
     shelf: MemoryShelf,
+    fails: bool,
     captures: usize,
     status: Status,
 }
@@ -183,15 +184,66 @@ impl Scene {
         Ok(self.status.code() == code)
     }
 
-    /// Runs it on the plan and the captures, and says whether it ends with this status and this fault line.
-    fn ends(&mut self, code: &str, line: &str) -> Result<bool, Failed> {
-        let mut words = words_of(self.alloc, "step plan.toml out")?;
+    /// Runs the command of this name on the plan and the captures, and says whether it ends with this status and this
+    /// fault line.
+    fn ends(&mut self, name: &str, code: &str, line: &str) -> Result<bool, Failed> {
+        let front = format!(in self.alloc; "{name} plan.toml out")?;
+        let mut words = words_of(self.alloc, front.as_str())?;
         for lane in 0..self.captures {
             words.push(input_name(self.alloc, lane)?)?;
         }
         let ended = self.run(code, words.as_slice())?;
         let told = format!(in self.alloc; "{}", self.status)?;
         Ok(ended && told == line.replace(self.alloc, ";", "\n")?)
+    }
+
+    /// Whether `check` accepts what a run left, with as many entries as the summary's last word says. The summary is
+    /// there again then.
+    fn is_accepted(&mut self) -> Result<bool, Failed> {
+        let summary = self.whole("-")?;
+        let (_, count) = str::from_utf8(summary.as_slice())?
+            .rsplit_once(' ')
+            .ok_or("no summary")?;
+        let accepted = format!(in self.alloc; "accepted entries {count}")?;
+        let told = self.ends("check", "0", "")? && self.holds("-", accepted.as_bytes())?;
+        self.shelf.put("-", summary.as_slice())?;
+        Ok(told)
+    }
+
+    /// Runs `step`, and `check` on what it left where no call is going to fail.
+    fn steps(&mut self, code: &str, line: &str) -> Result<bool, Failed> {
+        let ended = self.ends("step", code, line)?;
+        if self.fails || self.status.code() > 1 {
+            return Ok(ended);
+        }
+        Ok(ended && self.is_accepted()?)
+    }
+
+    /// Whether the command refuses the files by this rule at this place.
+    fn breaks(&mut self, name: &str, rule: &str, place: &str) -> Result<bool, Failed> {
+        let line = format!(in self.alloc; "slnf: refused by rule {rule};")?;
+        let refused = self.ends(name, "9", line.as_str())?;
+        let told = format!(in self.alloc; "Refused(Refusal {{ rule: {rule}, at: {place} }})")?;
+        Ok(refused && format!(in self.alloc; "{:?}", self.status)? == told)
+    }
+
+    /// Puts one text in the place of another in a file, and says whether it was there.
+    fn swap(&mut self, name: &str, texts: &str) -> Result<bool, Failed> {
+        let (old, new) = texts.split_once('%').ok_or("no texts")?;
+        let old = spelled(self.alloc, old, 1)?;
+        let new = spelled(self.alloc, new, 1)?;
+        let bytes = self.whole(name)?;
+        let text = str::from_utf8(bytes.as_slice())?;
+        let swapped = text.replace(self.alloc, old.as_str(), new.as_str())?;
+        self.shelf.put(name, swapped.as_bytes())?;
+        Ok(text.contains(old.as_str()))
+    }
+
+    /// Takes the last byte of a file away.
+    fn cut(&mut self, name: &str) -> Result<(), Failed> {
+        let bytes = self.whole(name)?;
+        let (_, front) = bytes.as_slice().split_last().ok_or("no byte")?;
+        Ok(self.shelf.put(name, front)?)
     }
 
     /// What the file holds.
@@ -204,13 +256,13 @@ impl Scene {
         Ok(self.whole(name)?.as_slice() == bytes)
     }
 
-    /// Does what a line says, and says whether what it tells is so.
-    fn follow(&mut self, line: &str) -> Result<bool, Failed> {
-        let (verb, rest) = parted(line);
+    /// Puts there what a line says, where its word is one that puts something.
+    fn puts(&mut self, verb: &str, rest: &str) -> Result<bool, Failed> {
         let (first, last) = parted(rest);
         match verb {
             "start" => {
                 self.shelf = shelf_of(self.alloc, rest)?;
+                self.fails = !rest.is_empty();
                 self.captures = 0;
             }
             "toml" => {
@@ -223,28 +275,56 @@ impl Scene {
             "rules" => self.put_rules(rest)?,
             "flows" => self.put_flows()?,
             "in" => self.put_captures(rest)?,
-            "ends" => return self.ends(first, last),
+            "cut" => self.cut(first)?,
+            "put" => {
+                let text = spelled(self.alloc, last, 1)?;
+                self.shelf.put(first, text.as_bytes())?;
+            }
+            _ => return Ok(false),
+        }
+        Ok(true)
+    }
+
+    /// Whether what a line tells is so.
+    fn tells(&mut self, verb: &str, rest: &str) -> Result<bool, Failed> {
+        let (first, last) = parted(rest);
+        let (next, others) = parted(last);
+        match verb {
+            "ends" => self.steps(first, last),
+            "runs" => self.ends(first, next, others),
+            "breaks" => self.breaks(first, next, others),
+            "unread" => {
+                let text = spelled(self.alloc, last, 1)?;
+                self.shelf.put("out.journal", text.as_bytes())?;
+                self.breaks("check", "1", first)
+            }
+            "swap" => self.swap(first, last),
             "words" => {
                 let words = words_of(self.alloc, last)?;
-                return self.run(first, words.as_slice());
+                self.run(first, words.as_slice())
             }
-            "was" => return Ok(format!(in self.alloc; "{:?}", self.status)?.as_str() == rest),
+            "was" => Ok(format!(in self.alloc; "{:?}", self.status)?.as_str() == rest),
             "holds" => {
                 let bytes = bytes_of(self.alloc, last, 1)?;
-                return self.holds(first, bytes.as_slice());
+                self.holds(first, bytes.as_slice())
             }
             "says" => {
                 let text = spelled(self.alloc, last, 1)?;
-                return self.holds(first, text.as_bytes());
+                self.holds(first, text.as_bytes())
             }
             "flowed" => {
                 let text = flowed(self.alloc)?;
-                return self.holds(first, text.as_bytes());
+                self.holds(first, text.as_bytes())
             }
-            "none" => return Ok(self.shelf.read(rest, 0, &mut [0; 1]).is_err()),
-            _ => return Ok(verb.is_empty() || verb == "#"),
+            "none" => Ok(self.shelf.read(rest, 0, &mut [0; 1]).is_err()),
+            _ => Ok(verb.is_empty() || verb == "#"),
         }
-        Ok(true)
+    }
+
+    /// Does what a line says, and says whether what it tells is so.
+    fn follow(&mut self, line: &str) -> Result<bool, Failed> {
+        let (verb, rest) = parted(line);
+        Ok(self.puts(verb, rest)? || self.tells(verb, rest)?)
     }
 }
 
@@ -265,6 +345,7 @@ fn empty(alloc: Global, state: RandomState) -> Scene {
         alloc,
         state,
         shelf: MemoryShelf::make(alloc, Vec::new(alloc)),
+        fails: false,
         captures: 0,
         status: Status::Ok,
     }

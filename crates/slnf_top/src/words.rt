@@ -2,7 +2,7 @@ ghost use Rattle.std.specs.Prelude.{◌≡◌, ◌≤◌, ◌+◌, map, option_m
 ghost use Rattle.std.specs.Str.{all_ascii_digits};
 ghost use Rattle.std.specs.List.{list_all};
 ghost use Rattle.slnf_journal.specs.Fields.{is_decimal, within, number_of};
-ghost use Rattle.slnf_top.specs.Words.{is_proper, are_captures, step_of, load_of, command_named, command_of, spelled};
+ghost use Rattle.slnf_top.specs.Words.{is_proper, are_captures, plan_words_of, load_of, command_named, command_of, plan_named, spelled};
 
 use crate::forms::{CommandWords, LoadWords, PlanWords};
 
@@ -35,20 +35,20 @@ fn are_captures(words: &[String]) -> bool
     1 <= words.len() && words.len() <= 32 && all_proper(words)
 }
 
-/// The words of `step`, where they are PLAN OUT IN...
-fn step_words(words: &[String]) -> Option<CommandWords<'_>>
-    ensures { option_map spelled result ≡ step_of (map string_bytes words.now) }
+/// The words PLAN OUT IN.., where these are such.
+fn plan_words(words: &[String]) -> Option<PlanWords<'_>>
+    ensures { option_map plan_named result ≡ plan_words_of (map string_bytes words.now) }
 {
     match words {
         [plan, out, captures @ ..] => {
             let plan = plan.as_str();
             let out = out.as_str();
             if is_proper(plan) && is_proper(out) && are_captures(captures) {
-                Some(CommandWords::Step(PlanWords {
+                Some(PlanWords {
                     plan,
                     out,
                     captures,
-                }))
+                })
             } else {
                 None
             }
@@ -131,7 +131,11 @@ fn words_behind<'a>(name: &str, words: &'a [String]) -> Option<CommandWords<'a>>
     ensures { option_map spelled result ≡ command_named name.now (map string_bytes words.now) }
 {
     if name == "step" {
-        step_words(words)
+        Some(CommandWords::Step(plan_words(words)?))
+    } else if name == "check" {
+        Some(CommandWords::Check(plan_words(words)?))
+    } else if name == "box" {
+        Some(CommandWords::Box(plan_words(words)?))
     } else if name == "load" {
         load_words(words)
     } else {

@@ -80,7 +80,7 @@ holds in.0.pcap ha
 start
 balancer 1 udp 1 [[epoch]];instances = [{ lane = 31 }];
 in 33 1 h P
-ends 2 slnf: usage: step PLAN OUT IN, or load NUMBER LANES PACKETS;
+ends 2 slnf: usage: step, check or box PLAN OUT IN, or load NUMBER LANES PACKETS;
 "#;
 
 /// Captures and plans that are refused.

@@ -1,6 +1,6 @@
 -- the files that were made and those that are left are all
 use Rattle.std.proofs.Common.{◌≡◌, ◌++◌, drop}
-use Rattle.slnf_top.specs.Inputs.{AreGiven, AreSized}
+use Rattle.slnf_check.specs.Given.{AreGiven, AreSized}
 use Rattle.slnf_top.specs.Files.{capture_files}
 use Rattle.slnf_top.proofs.outputs.capture_files.Given as goal
 

@@ -1,8 +1,8 @@
 use Rattle.std.proofs.Common.{◌≡◌, ◌≤◌, length, ap, sym, subst, arith}
 use Rattle.std.specs.Prelude.{List}
 use Rattle.slnf_flight.specs.declared.lanes.Lane.{Lane}
-use Rattle.slnf_top.specs.declared.inputs.Given.{Given}
-use Rattle.slnf_top.specs.Inputs.{AreGiven, AreSized}
+use Rattle.slnf_check.specs.declared.given.Given.{Given}
+use Rattle.slnf_check.specs.Given.{AreGiven, AreSized}
 use Rattle.slnf_top.specs.Written.{IsOutcome}
 use Rattle.slnf_top.proofs.Runs.{read_length, read_given, sized}
 use Rattle.slnf_top.proofs.steps.run_inputs.Goals as goal
