@@ -1,0 +1,4 @@
+pub mod Worked
+pub mod Takes
+pub mod Reports
+pub mod Parts

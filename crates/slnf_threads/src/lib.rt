@@ -1,0 +1,12 @@
+//! A plan's run on the shared store: its actors at work side by side in threads.
+#![tactic(auto)]
+
+mod epochs;
+mod reports;
+mod takes;
+mod theorems;
+mod turns;
+
+pub use epochs::run_epoch;
+pub use reports::{Desk, Report};
+pub use theorems::parts_are_runs;
