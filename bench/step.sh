@@ -3,7 +3,9 @@
 # has to write the same bytes. The words: how many runs each, 3 where none is given, then a text that the rows to be run begin
 # with, and a file for the rows. SLNF names another program than the built one. For each row it prints clock and processor
 # seconds, how often the proved program's clock time is the plain one's, its nanoseconds of clock time a packet, both peaks of
-# memory, and of the proved program's peak the bytes an entry, all and beside input, outputs and texts. Then it prints the bars.
+# memory, and of the proved program's peak the bytes an entry, all and beside input, outputs and texts; and last how often the clock
+# time of `slnf check` on what was written is that of the run. Then it prints the bars, and `slnf load` at three sizes: lanes, packets
+# a lane, entries, clock seconds, nanoseconds a packet and the peak of memory. bench/plot draws the file of rows.
 set -eu
 runs=${1:-3}
 only=${2:-}
@@ -37,12 +39,13 @@ row() {
         echo "step.sh: row $* differs" >&2
         exit 1
     fi
+    read -r check_clock _ _ < <("$folder/measure" "$runs" "$proved" check "$folder/in/plan.toml" "$folder/proved/o" "${captures[@]}")
     entries=$(($(wc -l <"$folder/proved/o.journal") - 1))
     files=$(bytes_in "$folder"/in/* "$folder"/proved/*)
-    echo "$@" "$entries" "$clock" "$plain_clock" "$processor" "$plain_processor" "$memory" "$plain_memory" "$files" |
+    echo "$@" "$entries" "$clock" "$plain_clock" "$processor" "$plain_processor" "$memory" "$plain_memory" "$files" "$check_clock" |
         awk '{
-            printf "%-9s %8d %6d %3d %3d %3d %5d %9d  %7.3f %7.3f  %7.3f %7.3f  %5.2f %6.0f  %7d %7d  %5d %5d\n", $1, $2, $3, $4, $5, $6, $7, $8,
-                $9, $10, $11, $12, $9 / $10, $9 * 1e9 / $2, $13, $14, $13 * 1024 / ($8 + 1), ($13 * 1024 - $15) / ($8 + 1)
+            printf "%-9s %8d %6d %3d %3d %3d %5d %9d  %7.3f %7.3f  %7.3f %7.3f  %5.2f %6.0f  %7d %7d  %5d %5d  %5.2f\n", $1, $2, $3, $4, $5, $6,
+                $7, $8, $9, $10, $11, $12, $9 / $10, $9 * 1e9 / $2, $13, $14, $13 * 1024 / ($8 + 1), ($13 * 1024 - $15) / ($8 + 1), $16 / $9
         }' | tee -a "$rows"
 }
 
@@ -54,6 +57,7 @@ bars() {
         $2 >= 1000000 {
             ratio = most(ratio, $13)
             beside = most(beside, $18)
+            check = most(check, $19)
             before = packet[setting " " 100000]
             if (before) growth = most(growth, $14 / before)
         }
@@ -61,15 +65,26 @@ bars() {
             if (ratio != "") printf "clock at 1000000 packets or more, over the plain program, at most: %.2f (bar 1.60)\n", ratio
             if (growth != "") printf "clock a packet at 1000000 packets over that at 100000, at most:     %.2f (bar 1.30)\n", growth
             if (beside != "") printf "bytes of the peak an entry beside files, at most:                  %d (bar 400)\n", beside
+            if (check != "") printf "clock of check at 1000000 packets or more, over the run, at most:   %.2f (bar 1.50)\n", check
             others = packet["balancer 2048 1 1 1 1 1000000"]
             meets = packet["colliding 2048 1 1 1 1 1000000"]
             if (others && meets) printf "clock of clients that collide, over others:                        %.2f\n", meets / others
         }' "$rows"
 }
 
-printf '%-9s %8s %6s %3s %3s %3s %5s %9s  %15s  %15s  %5s %6s  %15s  %11s\n' load packets flows '' '' '' '' '' clock processor over ns/pkt 'memory, kB' 'bytes/entry'
-printf '%-9s %8s %6s %3s %3s %3s %5s %9s  %7s %7s  %7s %7s  %5s %6s  %7s %7s  %5s %5s\n' '' '' '' shs ins bat epoch entries \
-    proved plain proved plain plain '' proved plain all beside
+# One load: lanes, packets a lane.
+load() {
+    case "load" in "$only"*) ;; *) return ;; esac
+    read -r clock _ memory < <("$folder/measure" "$runs" "$proved" load 1 "$1" "$2")
+    entries=$("$proved" load 1 "$1" "$2" | awk '{ print $NF }')
+    echo "load $(($1 * $2)) $entries $clock $1 $2 $memory" >>"$rows"
+    echo "$1 $2 $entries $clock $memory" |
+        awk '{ printf "load %5d %6d %9d  %7.3f %6.0f  %7d\n", $1, $2, $3, $4, $4 * 1e9 / ($1 * $2), $5 }'
+}
+
+printf '%-9s %8s %6s %3s %3s %3s %5s %9s  %15s  %15s  %5s %6s  %15s  %11s  %5s\n' load packets flows '' '' '' '' '' clock processor over ns/pkt 'memory, kB' 'bytes/entry' check
+printf '%-9s %8s %6s %3s %3s %3s %5s %9s  %7s %7s  %7s %7s  %5s %6s  %7s %7s  %5s %5s  %5s\n' '' '' '' shs ins bat epoch entries \
+    proved plain proved plain plain '' proved plain all beside over
 for function in balancer nat firewall; do
     for packets in 10000 100000 1000000; do
         row "$function" "$packets" 1000 1 1 1 1
@@ -89,3 +104,8 @@ row wide 160000 1000 64 4 32 1
 row balancer 1000000 2048 1 1 1 1
 row colliding 1000000 2048 1 1 1 1
 bars
+
+# Loads: lanes, packets a lane, entries, clock, nanoseconds a packet, memory in kB.
+load 1 10000
+load 4 25000
+load 32 32768
