@@ -4,8 +4,9 @@
 # with, and a file for the rows. SLNF names another program than the built one. For each row it prints clock and processor
 # seconds, how often the proved program's clock time is the plain one's, its nanoseconds of clock time a packet, both peaks of
 # memory, and of the proved program's peak the bytes an entry, all and beside input, outputs and texts; and last how often the clock
-# time of `slnf check` on what was written is that of the run. Then it prints the bars, and `slnf load` at three sizes: lanes, packets
-# a lane, entries, clock seconds, nanoseconds a packet and the peak of memory. bench/plot draws the file of rows.
+# time of `slnf check` on what was written is that of the run, with its peak of memory. Then it prints the bars, and `slnf load` at
+# three sizes: lanes, packets a lane, entries, clock seconds, nanoseconds a packet and the peak of memory. A fourth word is a file for
+# a plot of time over packets, which bench/plot draws.
 set -eu
 runs=${1:-3}
 only=${2:-}
@@ -39,13 +40,13 @@ row() {
         echo "step.sh: row $* differs" >&2
         exit 1
     fi
-    read -r check_clock _ _ < <("$folder/measure" "$runs" "$proved" check "$folder/in/plan.toml" "$folder/proved/o" "${captures[@]}")
+    read -r check_clock _ check_memory < <("$folder/measure" "$runs" "$proved" check "$folder/in/plan.toml" "$folder/proved/o" "${captures[@]}")
     entries=$(($(wc -l <"$folder/proved/o.journal") - 1))
     files=$(bytes_in "$folder"/in/* "$folder"/proved/*)
-    echo "$@" "$entries" "$clock" "$plain_clock" "$processor" "$plain_processor" "$memory" "$plain_memory" "$files" "$check_clock" |
+    echo "$@" "$entries" "$clock" "$plain_clock" "$processor" "$plain_processor" "$memory" "$plain_memory" "$files" "$check_clock" "$check_memory" |
         awk '{
-            printf "%-9s %8d %6d %3d %3d %3d %5d %9d  %7.3f %7.3f  %7.3f %7.3f  %5.2f %6.0f  %7d %7d  %5d %5d  %5.2f\n", $1, $2, $3, $4, $5, $6,
-                $7, $8, $9, $10, $11, $12, $9 / $10, $9 * 1e9 / $2, $13, $14, $13 * 1024 / ($8 + 1), ($13 * 1024 - $15) / ($8 + 1), $16 / $9
+            printf "%-9s %8d %6d %3d %3d %3d %5d %9d  %7.3f %7.3f  %7.3f %7.3f  %5.2f %6.0f  %7d %7d  %5d %5d  %5.2f %7d\n", $1, $2, $3, $4, $5, $6,
+                $7, $8, $9, $10, $11, $12, $9 / $10, $9 * 1e9 / $2, $13, $14, $13 * 1024 / ($8 + 1), ($13 * 1024 - $15) / ($8 + 1), $16 / $9, $17
         }' | tee -a "$rows"
 }
 
@@ -82,9 +83,9 @@ load() {
         awk '{ printf "load %5d %6d %9d  %7.3f %6.0f  %7d\n", $1, $2, $3, $4, $4 * 1e9 / ($1 * $2), $5 }'
 }
 
-printf '%-9s %8s %6s %3s %3s %3s %5s %9s  %15s  %15s  %5s %6s  %15s  %11s  %5s\n' load packets flows '' '' '' '' '' clock processor over ns/pkt 'memory, kB' 'bytes/entry' check
-printf '%-9s %8s %6s %3s %3s %3s %5s %9s  %7s %7s  %7s %7s  %5s %6s  %7s %7s  %5s %5s  %5s\n' '' '' '' shs ins bat epoch entries \
-    proved plain proved plain plain '' proved plain all beside over
+printf '%-9s %8s %6s %3s %3s %3s %5s %9s  %15s  %15s  %5s %6s  %15s  %11s  %13s\n' load packets flows '' '' '' '' '' clock processor over ns/pkt 'memory, kB' 'bytes/entry' check
+printf '%-9s %8s %6s %3s %3s %3s %5s %9s  %7s %7s  %7s %7s  %5s %6s  %7s %7s  %5s %5s  %5s %7s\n' '' '' '' shs ins bat epoch entries \
+    proved plain proved plain plain '' proved plain all beside over kB
 for function in balancer nat firewall; do
     for packets in 10000 100000 1000000; do
         row "$function" "$packets" 1000 1 1 1 1
@@ -109,3 +110,5 @@ bars
 load 1 10000
 load 4 25000
 load 32 32768
+
+[ -z "${4:-}" ] || "$top/bench/plot" "$rows" >"$4"
