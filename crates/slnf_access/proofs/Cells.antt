@@ -53,7 +53,8 @@ pub reply_is : (cells : Cells) (e : Entry) (request : Request) (cell : Option He
     e.reply ≡ reply_to e.request e.stamp (cells (key_of e.request)) → cells (key_of request) ≡ cell →
     e.reply ≡ reply_to request e.stamp cell
 reply_is cells e request cell asked replied is =
-    replied ∙ ap (λ (q : Request). reply_to q e.stamp (cells (key_of q))) asked ∙ ap (λ (h : Option Held). reply_to request e.stamp h) is
+    replied ∙ ap (λ (q : Request). reply_to q e.stamp (cells (key_of q))) asked
+    ∙ ap (λ (h : Option Held). reply_to request e.stamp h) is
 
 -- what the access's key has after it
 pub cell_is : (cells : Cells) (e : Entry) (request : Request) (cell : Option Held) → e.request ≡ request →

@@ -40,21 +40,26 @@ end_tells_back a b =
     (tells a.port b.port ∙ nat_eq_equiv.symm a.port b.port))
 
 -- tests that answer alike find the same
-pub lookup_same : {K X : Type 0} (test other : K → Bool) → ((k : K) → test k ≡ other k) → (es : List (K × X)) → lookup test es ≡ lookup other es
+pub lookup_same : {K X : Type 0} (test other : K → Bool)
+    → ((k : K) → test k ≡ other k) → (es : List (K × X)) → lookup test es ≡ lookup other es
 lookup_same test other h [] = refl
 lookup_same test other h (e ∷ es) =
     ap (λ b. cond b (Some e.1) (lookup test es)) (h e.0) ∙ ap (cond (other e.0) (Some e.1)) (lookup_same test other h es)
 
 -- what the map finds is what the table has
-pub found_at : (es : List (End × Pair)) (proto : Proto) (pair : Pair) → lookup (is_at (end_cmp (end_of proto pair))) es ≡ pair_at es proto pair
+pub found_at : (es : List (End × Pair)) (proto : Proto) (pair : Pair)
+    → lookup (is_at (end_cmp (end_of proto pair))) es ≡ pair_at es proto pair
 found_at es proto pair = lookup_same _ _ (λ k. end_tells (end_of proto pair) k) es
 
 -- the key k has this value, and each other what it had
 abbrev pub IsPut : List (End × Pair) → List (End × Pair) → End → Pair → Type 0
-IsPut es fs k value = (q : End) → lookup (is_at (end_cmp q)) fs ≡ cond (is_at (end_cmp k) q) (Some value) (lookup (is_at (end_cmp q)) es)
+IsPut es fs k value = (q : End)
+    → lookup (is_at (end_cmp q)) fs ≡ cond (is_at (end_cmp k) q) (Some value) (lookup (is_at (end_cmp q)) es)
 
 -- what a table has where one pair is put in
-put_point : (es fs : List (End × Pair)) (k : End) (proto : Proto) (pair value : Pair) → k ≡ end_of proto pair → IsPut es fs k value → (other_proto : Proto) (other : Pair) → pair_at fs other_proto other ≡ with_pin (pair_at es) proto pair value other_proto other
+put_point : (es fs : List (End × Pair)) (k : End) (proto : Proto) (pair value : Pair)
+    → k ≡ end_of proto pair → IsPut es fs k value → (other_proto : Proto) (other : Pair)
+    → pair_at fs other_proto other ≡ with_pin (pair_at es) proto pair value other_proto other
 put_point es fs k proto pair value key h other_proto other =
     let q = end_of other_proto other in
     sym (found_at fs other_proto other) ∙ h q
@@ -62,7 +67,8 @@ put_point es fs k proto pair value key h other_proto other =
     ∙ ap (λ r. cond (is_same_end q r) (Some value) (lookup (is_at (end_cmp q)) es)) key
     ∙ ap (cond (is_same_end q (end_of proto pair)) (Some value)) (found_at es other_proto other)
 
-pub put_pairs : (es fs : List (End × Pair)) (k : End) (proto : Proto) (pair value : Pair) → k ≡ end_of proto pair → IsPut es fs k value → pair_at fs ≡ with_pin (pair_at es) proto pair value
+pub put_pairs : (es fs : List (End × Pair)) (k : End) (proto : Proto) (pair value : Pair)
+    → k ≡ end_of proto pair → IsPut es fs k value → pair_at fs ≡ with_pin (pair_at es) proto pair value
 put_pairs es fs k proto pair value key h = λ i other_proto other. put_point es fs k proto pair value key h other_proto other i
 
 -- a key is its own
@@ -81,18 +87,28 @@ rest_none true x o h = some_none x h
 rest_none false x o h = h
 
 -- what was put in at a key that was not there is taken out again
-removed : (compare : End → End → Ordering) (k : End) (value : Pair) → is_at (compare k) k ≡ true → (e : End × Pair) (es : List (End × Pair)) (o : Ordering) → compare k e.0 ≡ o → cond (is_eq o) (Some e.1) (lookup (is_at (compare k)) es) ≡ None → remove_entry (is_at (compare k)) (insert_entry compare es k value) ≡ es → remove_entry (is_at (compare k)) (match_ordering o ((k, value) ∷ e ∷ es) ((e.0, value) ∷ es) (e ∷ insert_entry compare es k value)) ≡ e ∷ es
-removed compare k value itself e es Less is none again = ap (λ b. cond b (e ∷ es) ((k, value) ∷ remove_entry (is_at (compare k)) (e ∷ es))) itself
+removed : (compare : End → End → Ordering) (k : End) (value : Pair)
+    → is_at (compare k) k ≡ true → (e : End × Pair) (es : List (End × Pair)) (o : Ordering)
+    → compare k e.0 ≡ o → cond (is_eq o) (Some e.1) (lookup (is_at (compare k)) es) ≡ None
+    → remove_entry (is_at (compare k)) (insert_entry compare es k value) ≡ es → remove_entry (is_at (compare k))
+    (match_ordering o ((k, value) ∷ e ∷ es) ((e.0, value) ∷ es) (e ∷ insert_entry compare es k value)) ≡ e ∷ es
+removed compare k value itself e es Less is none again =
+    ap (λ b. cond b (e ∷ es) ((k, value) ∷ remove_entry (is_at (compare k)) (e ∷ es))) itself
 removed compare k value itself e es Equal is none again = some_none e.1 none
 removed compare k value itself e es Greater is none again =
-    ap (λ o. cond (is_eq o) (insert_entry compare es k value) (e ∷ remove_entry (is_at (compare k)) (insert_entry compare es k value))) is
+    ap (λ o. cond (is_eq o) (insert_entry compare es k value)
+    (e ∷ remove_entry (is_at (compare k)) (insert_entry compare es k value))) is
     ∙ ap (λ rest. e ∷ rest) again
 
-undone_by : (compare : End → End → Ordering) (k : End) (value : Pair) → is_at (compare k) k ≡ true → (es : List (End × Pair)) → lookup (is_at (compare k)) es ≡ None → remove_entry (is_at (compare k)) (insert_entry compare es k value) ≡ es
+undone_by : (compare : End → End → Ordering) (k : End) (value : Pair)
+    → is_at (compare k) k ≡ true → (es : List (End × Pair))
+    → lookup (is_at (compare k)) es ≡ None → remove_entry (is_at (compare k)) (insert_entry compare es k value) ≡ es
 undone_by compare k value itself [] none = ap (λ b. cond b [] ((k, value) ∷ [])) itself
 undone_by compare k value itself (e ∷ es) none =
-    removed compare k value itself e es (compare k e.0) refl none (undone_by compare k value itself es (rest_none (is_at (compare k) e.0) e.1 _ none))
+    removed compare k value itself e es (compare k e.0) refl none
+    (undone_by compare k value itself es (rest_none (is_at (compare k) e.0) e.1 _ none))
 
-pub undone : (es : List (End × Pair)) (proto : Proto) (pair value : Pair) → pair_at es proto pair ≡ None → taken_from (put_in es proto pair value) proto pair ≡ es
+pub undone : (es : List (End × Pair)) (proto : Proto) (pair value : Pair)
+    → pair_at es proto pair ≡ None → taken_from (put_in es proto pair value) proto pair ≡ es
 undone es proto pair value none =
     undone_by end_cmp (end_of proto pair) value (end_itself (end_of proto pair)) es (found_at es proto pair ∙ none)

@@ -51,10 +51,12 @@ found_at es key = lookup_same _ _ (λ k. link_tells (link_of key) k) es
 
 -- the key k has this value, and each other what it had
 abbrev pub IsPut : List (Link × Tracked) → List (Link × Tracked) → Link → Tracked → Type 0
-IsPut es fs k value = (q : Link) → lookup (is_at (link_cmp q)) fs ≡ cond (is_at (link_cmp k) q) (Some value) (lookup (is_at (link_cmp q)) es)
+IsPut es fs k value = (q : Link)
+    → lookup (is_at (link_cmp q)) fs ≡ cond (is_at (link_cmp k) q) (Some value) (lookup (is_at (link_cmp q)) es)
 
 -- what a table has where one connection is put in
-put_point : (es fs : List (Link × Tracked)) (k : Link) (key : ConnKey) (value : Tracked) → k ≡ link_of key → IsPut es fs k value → (other : ConnKey) → conn_at fs other ≡ with_value is_same_conn (conn_at es) key value other
+put_point : (es fs : List (Link × Tracked)) (k : Link) (key : ConnKey) (value : Tracked) → k ≡ link_of key
+    → IsPut es fs k value → (other : ConnKey) → conn_at fs other ≡ with_value is_same_conn (conn_at es) key value other
 put_point es fs k key value is_key h other =
     let q = link_of other in
     sym (found_at fs other) ∙ h q
@@ -62,5 +64,6 @@ put_point es fs k key value is_key h other =
     ∙ ap (λ r. cond (is_same_link q r) (Some value) (lookup (is_at (link_cmp q)) es)) is_key
     ∙ ap (cond (is_same_link q (link_of key)) (Some value)) (found_at es other)
 
-pub put_conns : (es fs : List (Link × Tracked)) (k : Link) (key : ConnKey) (value : Tracked) → k ≡ link_of key → IsPut es fs k value → conn_at fs ≡ with_value is_same_conn (conn_at es) key value
+pub put_conns : (es fs : List (Link × Tracked)) (k : Link) (key : ConnKey) (value : Tracked)
+    → k ≡ link_of key → IsPut es fs k value → conn_at fs ≡ with_value is_same_conn (conn_at es) key value
 put_conns es fs k key value is_key h = λ i other. put_point es fs k key value is_key h other i

@@ -1,5 +1,5 @@
 -- The ordinary firewall: one table of connections.
-use Rattle.std.specs.Prelude.{Bool, ◌&&◌, if◌then◌else◌, Option, None}
+use Rattle.std.specs.Prelude.{Bool, false, ◌&&◌, if◌then◌else◌, Option, None, is_none}
 use Rattle.slnf_base.specs.declared.packets.Packet.{Packet}
 use Rattle.slnf_base.specs.declared.packets.Change.TheVariants.{Keep}
 use Rattle.slnf_base.specs.declared.packets.Reason.TheVariants.{Neither}
@@ -37,10 +37,20 @@ choice_conns conns key (Refuses reason) = conns
 choice_conns conns key Passes = conns
 choice_conns conns key (Writes tracked) = with_value is_same_conn conns key tracked
 
+-- the choice is written of a connection of which nothing is kept
+abbrev pub keeps_new : Conns → ConnKey → Choice → Bool
+keeps_new conns key (Refuses reason) = false
+keeps_new conns key Passes = false
+keeps_new conns key (Writes tracked) = is_none (conns key)
+
 -- what the box makes of a packet
 abbrev pub fw_choice : Policy → Conns → Packet → Choice
 fw_choice policy conns packet =
     if crosses policy packet then choice_of policy packet (conns (conn_of_packet policy packet)) else Refuses Neither
+
+-- the packet opens a connection of which nothing is kept: the box makes an entry
+abbrev pub is_new_conn : Policy → Conns → Packet → Bool
+is_new_conn policy conns packet = keeps_new conns (conn_of_packet policy packet) (fw_choice policy conns packet)
 
 -- The box. It sees packets, and makes one step of each.
 abbrev pub fw_box : Policy → Box Packet Conns

@@ -1,5 +1,5 @@
 -- The ordinary balancer: one map from clients to backends.
-use Rattle.std.specs.Prelude.{◌&&◌, if◌then◌else◌, Option, Some, None}
+use Rattle.std.specs.Prelude.{Bool, ◌&&◌, if◌then◌else◌, Option, Some, None, is_none}
 use Rattle.slnf_base.specs.declared.addresses.Pair.{Pair}
 use Rattle.slnf_base.specs.declared.packets.Proto.{Proto}
 use Rattle.slnf_base.specs.declared.packets.Packet.{Packet}
@@ -23,7 +23,8 @@ no_pins = λ proto client. None
 -- the client has the backend, and every other what it had
 abbrev pub with_pin : Pins → Proto → Pair → Pair → Pins
 with_pin pins proto client backend =
-    λ other_proto other. if is_same_proto other_proto proto && is_same_pair other client then Some backend else pins other_proto other
+    λ other_proto other. if is_same_proto other_proto proto && is_same_pair other client
+    then Some backend else pins other_proto other
 
 -- a known client's backend, else the choice
 abbrev pub backend_or : Option Pair → Pair → Pair
@@ -50,6 +51,10 @@ lb_next service pins packet choice =
     if is_forward service packet
     then with_pin pins packet.proto packet.source (backend_or (pins packet.proto packet.source) choice)
     else pins
+
+-- the packet goes to the front, and its client has no backend: the box makes an entry
+abbrev pub is_new_client : Service → Pins → Packet → Bool
+is_new_client service pins packet = is_forward service packet && is_none (pins packet.proto packet.source)
 
 -- What the box sees: a packet, and the backend that is chosen for it.
 pub record LbArrival : Type 0 where

@@ -56,6 +56,12 @@ out_next flows packet (Some known) fresh = flows
 out_next flows packet None (Some fresh) = record { proto = packet.proto; inside = packet.source; outside = fresh } ∷ flows
 out_next flows packet None None = flows
 
+-- it makes a flow: its own has no pair yet, and the choice can be taken
+abbrev pub out_is_new : Option Pair → Option Pair → Bool
+out_is_new (Some known) fresh = false
+out_is_new None (Some fresh) = true
+out_is_new None None = false
+
 abbrev pub in_verdict : Option Pair → Verdict
 in_verdict (Some inside) = Emit (Dest inside)
 in_verdict None = Dropped NoFlow
@@ -75,6 +81,13 @@ nat_next nat flows arrival =
     if nat.is_out packet then out_next flows packet (pair_of flows packet.proto packet.source)
     (free_choice nat flows packet arrival.choice)
     else flows
+
+-- the packet makes a flow, which is an entry of the box
+abbrev pub is_new_flow : Nat → List Flow → NatArrival → Bool
+is_new_flow nat flows arrival =
+    let packet = arrival.packet in
+    nat.is_out packet
+    && out_is_new (pair_of flows packet.proto packet.source) (free_choice nat flows packet arrival.choice)
 
 abbrev pub nat_box : Nat → Box NatArrival (List Flow)
 nat_box nat = record { empty = []; verdict = nat_verdict nat; next = nat_next nat }

@@ -1,5 +1,5 @@
 -- The ordinary NAT over two tables: the outside pairs of flows by their inside pairs, and the other way.
-use Rattle.std.specs.Prelude.{◌&&◌, if◌then◌else◌, Option, Some, None}
+use Rattle.std.specs.Prelude.{Bool, ◌&&◌, if◌then◌else◌, Option, Some, None}
 use Rattle.slnf_base.specs.declared.addresses.Pair.{Pair}
 use Rattle.slnf_base.specs.declared.packets.Packet.{Packet}
 use Rattle.slnf_base.specs.declared.packets.Reason.TheVariants.{Neither}
@@ -7,7 +7,7 @@ use Rattle.slnf_base.specs.declared.packets.Verdict.{Verdict}
 use Rattle.slnf_base.specs.declared.packets.Verdict.TheVariants.{Dropped}
 use Rattle.slnf_base.specs.declared.plans.Pool.{Pool}
 use Rattle.slnf_box.specs.LbBox.{Pins, with_pin}
-use Rattle.slnf_box.specs.NatBox.{is_free, out_verdict, in_verdict}
+use Rattle.slnf_box.specs.NatBox.{is_free, out_verdict, out_is_new, in_verdict}
 use Rattle.slnf_box.specs.Pools.{has_pair, is_outbound, is_inbound}
 
 -- the choice, where it is a pair of the pool that no flow of the protocol has
@@ -45,3 +45,9 @@ table_owners pool pairs owners packet choice =
     if is_outbound pool packet
     then owners_with owners packet (pairs packet.proto packet.source) (fresh_choice pool owners packet choice)
     else owners
+
+-- the packet makes a flow
+abbrev pub table_is_new : Pool → Pins → Pins → Packet → Option Pair → Bool
+table_is_new pool pairs owners packet choice =
+    is_outbound pool packet
+    && out_is_new (pairs packet.proto packet.source) (fresh_choice pool owners packet choice)

@@ -1,5 +1,5 @@
-ghost use Rattle.std.specs.Prelude.{◌≡◌, IfOk, OnOk, OnErr};
-ghost use Rattle.slnf_box.specs.LbBox.{return_verdict, lb_box};
+ghost use Rattle.std.specs.Prelude.{◌≡◌, IfOk, OnOk, OnErr, IsTrue};
+ghost use Rattle.slnf_box.specs.LbBox.{return_verdict, lb_box, is_new_client};
 
 use crate::pairs::PairTable;
 use crate::services::{is_forward, is_return};
@@ -43,13 +43,15 @@ impl LbBox {
         }
     }
 
-    /// What the box does with a packet, where this backend is chosen for a client without a pin.
+    /// What the box does with a packet, where this backend is chosen for a client without a pin. Only a new client can want
+    /// memory.
     pub fn handle(&mut self, packet: &Packet, choice: Pair) -> Result<Verdict, NoMemory>
         ensures verdict { IfOk result (λ verdict. verdict ≡ (lb_box self.old.service).verdict (pins_of self.old)
             (record { packet = packet.now; choice = choice })) }
         ensures next { OnOk result (pins_of self.new ≡ (lb_box self.old.service).next (pins_of self.old)
             (record { packet = packet.now; choice = choice })) }
         ensures service { self.new.service ≡ self.old.service }
+        ensures new_client { OnErr result (IsTrue (is_new_client self.old.service (pins_of self.old) packet.now)) }
         ensures err { OnErr result (self.new ≡ self.old) }
     {
         if is_forward(&self.service, packet) {

@@ -1,4 +1,4 @@
-ghost use Rattle.std.specs.Prelude.{◌≡◌, OnOk, OnErr, []};
+ghost use Rattle.std.specs.Prelude.{◌≡◌, OnOk, OnErr, None, []};
 ghost use Rattle.slnf_run.specs.Tables.{with_value};
 ghost use Rattle.slnf_box.specs.FwBox.{is_same_conn};
 ghost use Rattle.slnf_box.specs.Conns.{conn_at};
@@ -64,9 +64,10 @@ impl ConnTable {
         self.conns.get(&link_of(key)).copied()
     }
 
-    /// Keeps this of a connection.
+    /// Keeps this of a connection. Only a connection that isn't there can want memory.
     pub fn put(&mut self, key: ConnKey, tracked: Tracked) -> Result<(), NoMemory>
         ensures ok { OnOk result (conn_at self.new ≡ with_value is_same_conn (conn_at self.old) key tracked) }
+        ensures absent { OnErr result (conn_at self.old key ≡ None) }
         ensures err { OnErr result (self.new ≡ self.old) }
     {
         self.conns.insert(link_of(key), tracked)?;

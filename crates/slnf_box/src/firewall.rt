@@ -1,5 +1,5 @@
-ghost use Rattle.std.specs.Prelude.{◌≡◌, IfOk, OnOk, OnErr};
-ghost use Rattle.slnf_box.specs.FwBox.{fw_choice, fw_box, choice_verdict, choice_conns};
+ghost use Rattle.std.specs.Prelude.{◌≡◌, IfOk, OnOk, OnErr, IsTrue};
+ghost use Rattle.slnf_box.specs.FwBox.{fw_choice, fw_box, choice_verdict, choice_conns, keeps_new, is_new_conn};
 ghost use Rattle.slnf_box.specs.Conns.{conn_at};
 
 use crate::choices::Choice;
@@ -34,6 +34,7 @@ fn fw_choice(policy: &Policy, conns: &ConnTable, packet: &Packet) -> Choice
 fn carry_out(conns: &mut ConnTable, key: ConnKey, choice: Choice) -> Result<Verdict, NoMemory>
     ensures verdict { IfOk result (λ verdict. verdict ≡ choice_verdict choice) }
     ensures next { OnOk result (conn_at conns.new ≡ choice_conns (conn_at conns.old) key choice) }
+    ensures new_conn { OnErr result (IsTrue (keeps_new (conn_at conns.old) key choice)) }
     ensures err { OnErr result (conns.new ≡ conns.old) }
 {
     match choice {
@@ -58,13 +59,14 @@ impl FwBox {
         }
     }
 
-    /// What the box does with a packet.
+    /// What the box does with a packet. Only a new connection can want memory.
     pub fn handle(&mut self, packet: &Packet) -> Result<Verdict, NoMemory>
         ensures verdict { IfOk result (λ verdict. verdict
             ≡ (fw_box self.old.policy).verdict (conns_of self.old) packet.now) }
         ensures next { OnOk result (conns_of self.new
             ≡ (fw_box self.old.policy).next (conns_of self.old) packet.now) }
         ensures policy { self.new.policy ≡ self.old.policy }
+        ensures new_conn { OnErr result (IsTrue (is_new_conn self.old.policy (conns_of self.old) packet.now)) }
         ensures err { OnErr result (self.new ≡ self.old) }
     {
         let choice = fw_choice(&self.policy, &self.conns, packet);

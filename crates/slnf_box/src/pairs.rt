@@ -1,4 +1,4 @@
-ghost use Rattle.std.specs.Prelude.{◌≡◌, IfOk, OnOk, OnErr, []};
+ghost use Rattle.std.specs.Prelude.{◌≡◌, IfOk, OnOk, OnErr, None, []};
 ghost use Rattle.slnf_box.specs.LbBox.{with_pin, backend_or};
 ghost use Rattle.slnf_box.specs.Pairs.{pair_at, put_in, taken_from};
 
@@ -61,10 +61,11 @@ impl PairTable {
         self.pairs.get(&end_of(proto, pair)).copied()
     }
 
-    /// Sets what the table has at a protocol's pair.
+    /// Sets what the table has at a protocol's pair. Only a pair that isn't there can want memory.
     pub fn put(&mut self, proto: Proto, pair: Pair, value: Pair) -> Result<(), NoMemory>
         ensures ok { OnOk result (pair_at self.new ≡ with_pin (pair_at self.old) proto pair value) }
         ensures entries { OnOk result (self.new ≡ put_in self.old proto pair value) }
+        ensures absent { OnErr result (pair_at self.old proto pair ≡ None) }
         ensures err { OnErr result (self.new ≡ self.old) }
     {
         self.pairs.insert(end_of(proto, pair), value)?;
@@ -78,11 +79,13 @@ impl PairTable {
         self.pairs.remove(&end_of(proto, pair));
     }
 
-    /// What the table has at a protocol's pair, or else this value, which it has there then.
+    /// What the table has at a protocol's pair, or else this value, which it has there then. Only a pair that isn't there can
+    /// want memory.
     pub fn at_or_put(&mut self, proto: Proto, pair: Pair, value: Pair) -> Result<Pair, NoMemory>
         ensures value { IfOk result (λ known. known ≡ backend_or (pair_at self.old proto pair) value) }
         ensures ok { OnOk result (pair_at self.new
             ≡ with_pin (pair_at self.old) proto pair (backend_or (pair_at self.old proto pair) value)) }
+        ensures absent { OnErr result (pair_at self.old proto pair ≡ None) }
         ensures err { OnErr result (self.new ≡ self.old) }
     {
         match self.at(proto, pair) {

@@ -1,9 +1,9 @@
-ghost use Rattle.std.specs.Prelude.{◌≡◌, IfOk, OnOk, OnErr, None, List};
+ghost use Rattle.std.specs.Prelude.{◌≡◌, IfOk, OnOk, OnErr, IsTrue, None, List};
 ghost use Rattle.slnf_box.specs.LbBox.{with_pin};
-ghost use Rattle.slnf_box.specs.NatBox.{Flow, nat_box, out_verdict, in_verdict};
+ghost use Rattle.slnf_box.specs.NatBox.{Flow, nat_box, out_verdict, out_is_new, in_verdict, is_new_flow};
 ghost use Rattle.slnf_box.specs.Pools.{nat_of};
 ghost use Rattle.slnf_box.specs.Pairs.{pair_at};
-ghost use Rattle.slnf_box.specs.Tables.{fresh_choice, pairs_with, owners_with, table_verdict, table_pairs, table_owners};
+ghost use Rattle.slnf_box.specs.Tables.{fresh_choice, pairs_with, owners_with, table_verdict, table_pairs, table_owners, table_is_new};
 
 use crate::pairs::PairTable;
 use crate::pools::{has_pair, is_inbound, is_outbound};
@@ -82,6 +82,8 @@ fn send_out(
     ensures owners { OnOk result (pair_at owners.new ≡ owners_with (pair_at owners.old) packet.now
         (pair_at pairs.old packet.now.proto packet.now.source)
         (fresh_choice pool.now (pair_at owners.old) packet.now choice)) }
+    ensures new_flow { OnErr result (IsTrue (out_is_new (pair_at pairs.old packet.now.proto packet.now.source)
+        (fresh_choice pool.now (pair_at owners.old) packet.now choice))) }
     ensures pairs_err { OnErr result (pairs.new ≡ pairs.old) }
     ensures owners_err { OnErr result (owners.new ≡ owners.old) }
 {
@@ -142,6 +144,8 @@ impl NatBox {
             ≡ table_pairs self.old.pool (pairs_of self.old) (owners_of self.old) packet.now choice) }
         ensures owners { OnOk result (owners_of self.new
             ≡ table_owners self.old.pool (pairs_of self.old) (owners_of self.old) packet.now choice) }
+        ensures new_flow { OnErr result (IsTrue
+            (table_is_new self.old.pool (pairs_of self.old) (owners_of self.old) packet.now choice)) }
         ensures pool { self.new.pool ≡ self.old.pool }
         ensures err { OnErr result (self.new ≡ self.old) }
     {
@@ -160,12 +164,14 @@ impl NatBox {
         Ok(Verdict::Dropped(Reason::Neither))
     }
 
-    /// What the box does with a packet, where this pair is proposed for a new flow.
+    /// What the box does with a packet, where this pair is proposed for a new flow. Only a new flow can want memory.
     pub fn handle(&mut self, packet: &Packet, choice: Option<Pair>) -> Result<Verdict, NoMemory>
         ensures verdict { (flows : List Flow) → HasFlows self.old flows → IfOk result (λ verdict. verdict
             ≡ (nat_box (nat_of self.old.pool)).verdict flows (record { packet = packet.now; choice = choice })) }
         ensures next { (flows : List Flow) → HasFlows self.old flows → OnOk result (HasFlows self.new
             ((nat_box (nat_of self.old.pool)).next flows (record { packet = packet.now; choice = choice }))) }
+        ensures new_flow { (flows : List Flow) → HasFlows self.old flows → OnErr result (IsTrue
+            (is_new_flow (nat_of self.old.pool) flows (record { packet = packet.now; choice = choice }))) }
         ensures pool { self.new.pool ≡ self.old.pool }
         ensures err { OnErr result (self.new ≡ self.old) }
     {

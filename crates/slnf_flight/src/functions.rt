@@ -1,4 +1,6 @@
-ghost use Rattle.std.specs.Prelude.{◌≡◌, ◌<◌, length, IfOk, slice_get};
+ghost use Rattle.std.specs.Prelude.{◌≡◌, ◌<◌, length, IfOk, IsOk, slice_get};
+ghost use Rattle.slnf_base.specs.declared.plans.Pool.{Pool};
+ghost use Rattle.slnf_plan.specs.declared.plan.FunctionPlan.TheVariants.{Nat as NatPlan};
 ghost use Rattle.slnf_run.specs.Cases.{start_as, stray_request};
 ghost use Rattle.slnf_flight.specs.declared.flights.AnyFlight.TheVariants.{Nat as NatFlies, Firewall as FwFlies, Balancer as LbFlies};
 ghost use Rattle.slnf_flight.specs.Functions.{IsFunctionOf, step_as};
@@ -151,10 +153,11 @@ impl Function for AnyFunction {
 }
 
 impl AnyFunction {
-    /// The function of a plan's epoch. The rules, the backends and those that are active are copied.
+    /// The function of a plan's epoch. The rules, the backends and those that are active are copied; a NAT wants no memory.
     pub fn of(alloc: Global, plan: &Plan, epoch: usize) -> Result<AnyFunction, NoMemory>
         requires { epoch < length plan.now.epochs }
-        ensures { IfOk result (IsFunctionOf plan.now.function (slice_get plan.now.epochs epoch)) }
+        ensures function { IfOk result (IsFunctionOf plan.now.function (slice_get plan.now.epochs epoch)) }
+        ensures nat { (pool : Pool) → plan.now.function ≡ NatPlan pool → IsOk result }
     {
         let epoch = &plan.epochs.as_slice()[epoch];
         match &plan.function {

@@ -31,8 +31,10 @@ column_of Datagram = 6
 -- the table's row for a state: what a Syn, SynAck, Fin, Rst, Ack, Bare and Datagram do
 abbrev pub row_of : State → List (Move × Move)
 row_of SynSent = (Stay, Deny) ∷ (Deny, To SynAcked) ∷ both Deny ∷ both (To Closed) ∷ both Deny ∷ both Deny ∷ both Deny ∷ []
-row_of SynAcked = (Stay, Deny) ∷ (Deny, Stay) ∷ (To FinByOpener, To FinByOther) ∷ both (To Closed) ∷ (To Opened, Stay) ∷ both Deny ∷ both Deny ∷ []
-row_of Opened = (Stay, Deny) ∷ (Deny, Stay) ∷ (To FinByOpener, To FinByOther) ∷ both (To Closed) ∷ both Stay ∷ both Deny ∷ both Deny ∷ []
+row_of SynAcked = (Stay, Deny) ∷ (Deny, Stay) ∷ (To FinByOpener, To FinByOther)
+    ∷ both (To Closed) ∷ (To Opened, Stay) ∷ both Deny ∷ both Deny ∷ []
+row_of Opened = (Stay, Deny) ∷ (Deny, Stay) ∷ (To FinByOpener, To FinByOther)
+    ∷ both (To Closed) ∷ both Stay ∷ both Deny ∷ both Deny ∷ []
 row_of FinByOpener = both Deny ∷ both Deny ∷ (Stay, To BothFin) ∷ both (To Closed) ∷ both Stay ∷ both Deny ∷ both Deny ∷ []
 row_of FinByOther = both Deny ∷ both Deny ∷ (To BothFin, Stay) ∷ both (To Closed) ∷ both Stay ∷ both Deny ∷ both Deny ∷ []
 row_of BothFin = both Deny ∷ both Deny ∷ both Stay ∷ both (To Closed) ∷ both (To Closed) ∷ both Deny ∷ both Deny ∷ []

@@ -39,7 +39,8 @@ datagram-length number word = refl
 
 -- the records from one number on
 records-read : (state most number count : ℕ) → count ≤ most →
-    records_from false most (24 + 44 * number) (flat_map (drawn_record state) (range_with_len number count)) ≡ Ok (map packet_told (range_with_len number count))
+    records_from false most (24 + 44 * number) (flat_map (drawn_record state) (range_with_len number count))
+    ≡ Ok (map packet_told (range_with_len number count))
 unfolding record_of
 records-read state most number zero few = records_from-nothing false most (24 + 44 * number)
 records-read state zero number (suc count) few = absurd (omega arith)
@@ -52,7 +53,8 @@ records-read state (suc most) number (suc count) few =
     let packet : Captured = record { at = at; len = length body } in
     let size = record_header-length number in
     let len = datagram-length number (word_after number state) in
-    let read : record_at false at bytes ≡ Ok packet = record_at-written false at head body rest size (record_header-says number ∙ sym len) (omega arith) in
+    let read : record_at false at bytes ≡ Ok packet =
+    record_at-written false at head body rest size (record_header-says number ∙ sym len) (omega arith) in
     let some : 0 < length bytes = omega (arith, length-append head (body ++ rest)) in
     let next : at + 16 + length body ≡ 24 + 44 * (number + 1) = omega arith in
     ap (λ l. records_from false (suc most) at l) (append_assoc head body rest)
@@ -80,7 +82,8 @@ capture-accepted state packets few =
     (ap (λ l. records_from false 1048576 24 l) (header-behind rest) ∙ records-read state 1048576 0 packets (omega arith))
 
 -- the checksum is added to the sum
-sum-with : (check number word : ℕ) → check < 2 ^ 16 → sum (words_of (header_with check number word)) ≡ sum (words_of (header_with 0 number word)) + check
+sum-with : (check number word : ℕ) → check < 2 ^ 16 →
+    sum (words_of (header_with check number word)) ≡ sum (words_of (header_with 0 number word)) + check
 unfolding header_with
 sum-with check number word fits = omega arith
 
@@ -106,7 +109,8 @@ pub captures-accepted : {X : Type 0} (view : X → List ℕ) (number lanes packe
     map view captures ≡ map (lane_capture number packets) (range_with_len 0 lanes) →
     All (λ (capture : X). capture_of (view capture) ≡ Ok (capture_told packets)) captures
 captures-accepted view number lanes packets captures few are k d within =
-    let long : length captures ≡ lanes = sym (length-map captures view) ∙ ap length are ∙ length-map-range_with_len (lane_capture number packets) 0 lanes in
+    let long : length captures ≡ lanes = sym (length-map captures view)
+    ∙ ap length are ∙ length-map-range_with_len (lane_capture number packets) 0 lanes in
     let is : view (get_or captures k d) ≡ lane_capture number packets k =
     sym (get_or-map view captures k d (view d) within) ∙ ap (λ l. get_or l k (view d)) are
     ∙ get_or-map-range_with_len (lane_capture number packets) 0 lanes k k (view d) (omega arith) (omega arith) in

@@ -15,7 +15,8 @@ unfolding state_after
 state_after-none count state none = ap (λ n. state_after n state) (sym none)
 
 -- one word more
-pub state_after-next : (count start state : ℕ) → state ≡ state_after count start → next_state state ≡ state_after (count + 1) start
+pub state_after-next : (count start state : ℕ) → state ≡ state_after count start →
+    next_state state ≡ state_after (count + 1) start
 unfolding state_after
 state_after-next count start state drawn =
     let one : suc count ≡ count + 1 = omega arith in
@@ -30,7 +31,8 @@ state_after-add a (suc b) state =
     ap next_state (state_after-add a b state) ∙ ap (λ n. state_after n state) one
 
 -- the words of one lane more
-pub state_after-lane : (lane packets start state next : ℕ) → state ≡ state_after (lane * packets) start → next ≡ state_after packets state → next ≡ state_after ((lane + 1) * packets) start
+pub state_after-lane : (lane packets start state next : ℕ) → state ≡ state_after (lane * packets) start →
+    next ≡ state_after packets state → next ≡ state_after ((lane + 1) * packets) start
 state_after-lane lane packets start state next drawn more =
     let all : lane * packets + packets ≡ (lane + 1) * packets = omega arith in
     more ∙ ap (λ s. state_after packets s) drawn
@@ -44,12 +46,14 @@ range-more a (suc n) j is =
     ap (λ l. a ∷ l) (range-more (a + 1) n j (omega arith)) ∙ ap (λ m. range_with_len a m) one
 
 -- what one number more gives
-pieces-more : (front : List ℕ) (f : ℕ → List ℕ) (a n j : ℕ) → a + n ≡ j → (front ++ flat_map f (range_with_len a n)) ++ f j ≡ front ++ flat_map f (range_with_len a (n + 1))
+pieces-more : (front : List ℕ) (f : ℕ → List ℕ) (a n j : ℕ) →
+    a + n ≡ j → (front ++ flat_map f (range_with_len a n)) ++ f j ≡ front ++ flat_map f (range_with_len a (n + 1))
 pieces-more front f a n j is =
     flat_map_more f front (range_with_len a n) j ∙ ap (λ l. front ++ flat_map f l) (range-more a n j is)
 
 -- one record more
-pub records-more : (start number word state : ℕ) (old new : List ℕ) → state ≡ state_after number start → word ≡ (mix_u64 state).0 →
+pub records-more : (start number word state : ℕ) (old new : List ℕ) →
+    state ≡ state_after number start → word ≡ (mix_u64 state).0 →
     old ≡ file_header ++ flat_map (drawn_record start) (range_with_len 0 number) → new ≡ old ++ record_of number word →
     new ≡ file_header ++ flat_map (drawn_record start) (range_with_len 0 (number + 1))
 unfolding word_after
@@ -61,7 +65,8 @@ records-more start number word state old new drawn is so more =
 
 -- one capture more
 pub captures-more : {X : Type 0} (view : X → List ℕ) (f : ℕ → List ℕ) (lane : ℕ) (old new : List X) (x : X) →
-    map view old ≡ map f (range_with_len 0 lane) → view x ≡ f lane → new ≡ old ++ x ∷ [] → map view new ≡ map f (range_with_len 0 (lane + 1))
+    map view old ≡ map f (range_with_len 0 lane) →
+    view x ≡ f lane → new ≡ old ++ x ∷ [] → map view new ≡ map f (range_with_len 0 (lane + 1))
 captures-more view f lane old new x so is more =
     ap (λ l. map view l) more ∙ map-append view old (x ∷ [])
     ∙ ap (λ l. l ++ view x ∷ []) so
@@ -69,8 +74,10 @@ captures-more view f lane old new x so is more =
     ∙ sym (map-range_with_len_more f 0 lane lane (omega arith))
 
 -- one instance more
-pub instances-more : (lane : ℕ) (front old parted new : List ℕ) → 1 ≤ lane → old ≡ front ++ flat_map next_text (range_with_len 1 (lane - 1)) →
-    parted ≡ old ++ codes ", " → new ≡ parted ++ instance_text lane → new ≡ front ++ flat_map next_text (range_with_len 1 (lane + 1 - 1))
+pub instances-more : (lane : ℕ) (front old parted new : List ℕ) →
+    1 ≤ lane → old ≡ front ++ flat_map next_text (range_with_len 1 (lane - 1)) →
+    parted ≡ old ++ codes ", " → new ≡ parted ++ instance_text lane →
+    new ≡ front ++ flat_map next_text (range_with_len 1 (lane + 1 - 1))
 instances-more lane front old parted new some so comma more =
     let one : lane - 1 + 1 ≡ lane + 1 - 1 = omega arith in
     more ∙ ap (λ l. l ++ instance_text lane) comma

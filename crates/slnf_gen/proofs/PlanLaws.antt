@@ -23,7 +23,9 @@ abbrev told : ℕ → Read
 told lanes = Ok (plan_told lanes)
 
 all-accepted : map read (range_with_len 1 32) ≡ map told (range_with_len 1 32)
-unfolding toml_on_literals digits is_utf8 chars decimal_at decimal_after address_at address_of prefix_of nat_rows nat_table instance_rows instance_table instance_list instances_row active_row sweep_row schedule_row epoch_rows epoch_table function_row shards_row batch_row epochs_row plan_rows plan_of plan_of_bytes plan_head plan_text
+unfolding toml_on_literals digits is_utf8 chars decimal_at decimal_after address_at address_of prefix_of nat_rows
+    nat_table instance_rows instance_table instance_list instances_row active_row sweep_row schedule_row epoch_rows
+    epoch_table function_row shards_row batch_row epochs_row plan_rows plan_of plan_of_bytes plan_head plan_text
 all-accepted = refl
 
 pub plan-accepted : (lanes : ℕ) → 1 ≤ lanes → lanes ≤ 32 → plan_of_bytes (plan_text lanes) ≡ Ok (plan_told lanes)

@@ -21,7 +21,8 @@ found byte bytes None h =
 found byte bytes (Some at) h =
     let p : ℕ → Bool = λ b. b == byte in
     let place : position_or_len p bytes ≡ at =
-    position_or_len_is p bytes at 0 (omega (arith, h.0.high)) (λ k below. false_from_ne_true _ (h.0.before k (omega arith) below)) (λ _. h.1) in
+    position_or_len_is p bytes at 0
+    (omega (arith, h.0.high)) (λ k below. false_from_ne_true _ (h.0.before k (omega arith) below)) (λ _. h.1) in
     let cut = slice_split_first p bytes 0 (omega (arith, place, h.0.high)) in
     (h.0.high, subst (λ n. slice_split p bytes ≡ take n bytes ∷ slice_split p (drop (n + 1) bytes)) place cut)
 
@@ -33,15 +34,19 @@ left_inside : (line : List ℕ) (at : ℕ) → at ≤ length line → left_at li
 unfolding left_at
 left_inside line at inside = ap (λ b. cond b [] (parts_at 32 (drop at line))) (le-ltb _ _ inside)
 
-pub some_field : (line rest : List ℕ) (at number len : ℕ) (r : Option ℕ) → at ≤ length line → rest ≡ drop at line → len ≡ unwrap_or r (length rest) → Cuts 32 rest r →
+pub some_field : (line rest : List ℕ) (at number len : ℕ) (r : Option ℕ) →
+    at ≤ length line → rest ≡ drop at line → len ≡ unwrap_or r (length rest) → Cuts 32 rest r →
     first_of number (left_at line at) ≡ Ok (take len rest, record { number = number + 1; left = left_at line (at + len + 1) })
 unfolding left_at
 some_field line rest at number len None inside is long cut =
     let here : left_at line at ≡ take len rest ∷ [] =
-    left_inside line at inside ∙ ap (λ bytes. parts_at 32 bytes) (sym is) ∙ cut ∙ ap (λ bytes. bytes ∷ []) (sym (take_all len rest (omega arith))) in
+    left_inside line at inside ∙ ap (λ bytes. parts_at 32 bytes) (sym is)
+    ∙ cut ∙ ap (λ bytes. bytes ∷ []) (sym (take_all len rest (omega arith))) in
     let size : length rest ≡ length line - at = ap length is ∙ length-drop at line in
-    let none : left_at line (at + len + 1) ≡ [] = ap (λ b. cond b [] (parts_at 32 (drop (at + len + 1) line))) (lt-ltb (length line) (at + len + 1) (omega arith)) in
-    ap (λ left. first_of number left) here ∙ ap (λ left. Ok (take len rest, record { number = number + 1; left = left })) (sym none)
+    let none : left_at line (at + len + 1) ≡ [] = ap (λ b. cond b [] (parts_at 32 (drop (at + len + 1) line)))
+    (lt-ltb (length line) (at + len + 1) (omega arith)) in
+    ap (λ left. first_of number left) here
+    ∙ ap (λ left. Ok (take len rest, record { number = number + 1; left = left })) (sym none)
 some_field line rest at number len (Some k) inside is long cut =
     let size : length rest ≡ length line - at = ap length is ∙ length-drop at line in
     let place : drop (k + 1) rest ≡ drop (at + len + 1) line =
@@ -57,16 +62,20 @@ some_field line rest at number len (Some k) inside is long cut =
 pub some_part : (byte : ℕ) (bytes : List ℕ) → 0 < length (parts_at byte bytes)
 some_part byte bytes = omega (arith, length-slice_split (λ b. b == byte) bytes)
 
-pub more_fields : (entry : Entry) (line : List ℕ) (at number : ℕ) → at ≤ length line → Err number ≡ ending_at entry number (left_at line at)
-more_fields entry line at number inside = some_left entry number _ (omega (arith, ap length (left_inside line at inside), some_part 32 (drop at line)))
+pub more_fields : (entry : Entry) (line : List ℕ) (at number : ℕ) →
+    at ≤ length line → Err number ≡ ending_at entry number (left_at line at)
+more_fields entry line at number inside =
+    some_left entry number _ (omega (arith, ap length (left_inside line at inside), some_part 32 (drop at line)))
   where
     some_left : (entry : Entry) (number : ℕ) (left : List (List ℕ)) → 0 < length left → Err number ≡ ending_at entry number left
     some_left entry number [] some = absurd (omega arith)
     some_left entry number (field ∷ left) some = refl
 
-pub no_more_fields : (entry : Entry) (line : List ℕ) (at number : ℕ) → length line < at → Ok entry ≡ ending_at entry number (left_at line at)
+pub no_more_fields : (entry : Entry) (line : List ℕ) (at number : ℕ) →
+    length line < at → Ok entry ≡ ending_at entry number (left_at line at)
 unfolding left_at
-no_more_fields entry line at number past = ap (λ b. ending_at entry number (cond b [] (parts_at 32 (drop at line)))) (sym (lt-ltb _ _ past))
+no_more_fields entry line at number past =
+    ap (λ b. ending_at entry number (cond b [] (parts_at 32 (drop at line)))) (sym (lt-ltb _ _ past))
 
 -- all fields of a line
 pub left_at-start : (line : List ℕ) → left_at line 0 ≡ parts_at 32 line

@@ -20,7 +20,8 @@ digit_is n h = grind (arith, nat_tests)
 digit_back : (n : ℕ) → n < 16 → hex_digit_value (hex_digit n) ≡ n
 digit_back n h = grind (arith, nat_tests)
 
-hex_text-more : (width n d : ℕ) → is_hex_digit d ≡ true → hex_text (suc width) (n * 16 + hex_digit_value d) ≡ hex_text width n ++ d ∷ []
+hex_text-more : (width n d : ℕ) → is_hex_digit d ≡ true
+    → hex_text (suc width) (n * 16 + hex_digit_value d) ≡ hex_text width n ++ d ∷ []
 unfolding hex_text
 hex_text-more width n d h =
     let small = digit_small d h in
@@ -31,7 +32,8 @@ hex_text-more width n d h =
     ∙ ap (λ m. hex_text width n ++ m ∷ []) (digit_again d h)
 
 -- the digits behind those of a number so far
-text_is : (ds : List ℕ) (width n : ℕ) → are_hex_digits ds ≡ true → hex_text (width + length ds) (hex_value n ds) ≡ hex_text width n ++ ds
+text_is : (ds : List ℕ) (width n : ℕ) → are_hex_digits ds ≡ true
+    → hex_text (width + length ds) (hex_value n ds) ≡ hex_text width n ++ ds
 text_is [] width n h =
     let e : width + 0 ≡ width = omega arith in
     ap (λ w. hex_text w n) e ∙ sym (append-nil (hex_text width n))
@@ -47,9 +49,11 @@ value_small : (ds : List ℕ) (n : ℕ) → are_hex_digits ds ≡ true → hex_v
 value_small [] n h = omega arith
 value_small (d ∷ ds) n h =
     let p = and_parts (is_hex_digit d) (are_hex_digits ds) h in
-    let more : (n * 16 + hex_digit_value d + 1) * 16 ^ length ds ≤ (n * 16 + 16) * 16 ^ length ds = mul-le-mul_right (16 ^ length ds) (omega (arith, digit_small d p.0)) in
+    let more : (n * 16 + hex_digit_value d + 1) * 16 ^ length ds ≤ (n * 16 + 16) * 16 ^ length ds =
+    mul-le-mul_right (16 ^ length ds) (omega (arith, digit_small d p.0)) in
     let power : 16 ^ length (d ∷ ds) ≡ 16 ^ length ds * 16 = pow-suc 16 (length ds) in
-    let step : hex_value n (d ∷ ds) < (n + 1) * (16 ^ length ds * 16) = omega (arith, value_small ds (n * 16 + hex_digit_value d) p.1, more) in
+    let step : hex_value n (d ∷ ds) < (n + 1) * (16 ^ length ds * 16) =
+    omega (arith, value_small ds (n * 16 + hex_digit_value d) p.1, more) in
     subst (λ q. hex_value n (d ∷ ds) < (n + 1) * q) (sym power) step
 
 value_push : (ds : List ℕ) (n d : ℕ) → hex_value n (ds ++ d ∷ []) ≡ hex_value n ds * 16 + hex_digit_value d
@@ -58,17 +62,20 @@ value_push (e ∷ ds) n d = value_push ds (n * 16 + hex_digit_value e) d
 
 digits_push : (ds : List ℕ) (d : ℕ) → are_hex_digits ds ≡ true → is_hex_digit d ≡ true → are_hex_digits (ds ++ d ∷ []) ≡ true
 digits_push [] d h last = and_from _ _ last refl
-digits_push (e ∷ ds) d h last = let p = and_parts (is_hex_digit e) (are_hex_digits ds) h in and_from _ _ p.0 (digits_push ds d p.1 last)
+digits_push (e ∷ ds) d h last = let p = and_parts (is_hex_digit e) (are_hex_digits ds) h in
+    and_from _ _ p.0 (digits_push ds d p.1 last)
 
 pub hex_text-digits : (width n : ℕ) → are_hex_digits (hex_text width n) ≡ true
 unfolding hex_text
 hex_text-digits zero n = refl
-hex_text-digits (suc width) n = digits_push (hex_text width (n / 16)) (hex_digit (n % 16)) (hex_text-digits width (n / 16)) (digit_is (n % 16) (omega arith))
+hex_text-digits (suc width) n = digits_push (hex_text width (n / 16))
+    (hex_digit (n % 16)) (hex_text-digits width (n / 16)) (digit_is (n % 16) (omega arith))
 
 pub hex_text-length : (width n : ℕ) → length (hex_text width n) ≡ width
 unfolding hex_text
 hex_text-length zero n = refl
-hex_text-length (suc width) n = omega (arith, length-append (hex_text width (n / 16)) (hex_digit (n % 16) ∷ []), hex_text-length width (n / 16))
+hex_text-length (suc width) n =
+    omega (arith, length-append (hex_text width (n / 16)) (hex_digit (n % 16) ∷ []), hex_text-length width (n / 16))
 
 value_is : (width n : ℕ) → n < 16 ^ width → hex_value 0 (hex_text width n) ≡ n
 unfolding hex_text
@@ -87,7 +94,8 @@ pub hex_gives : (field : List ℕ) (n : ℕ) → hex_number field ≡ Some n →
 unfolding hex_number
 hex_gives field n h = split (length field == 32) (are_hex_digits field) refl refl h
   where
-    split : (a b : Bool) → (length field == 32) ≡ a → are_hex_digits field ≡ b → cond (a && b) (Some (hex_value 0 field)) None ≡ Some n → IsWord n × (field ≡ hex_text 32 n)
+    split : (a b : Bool) → (length field == 32) ≡ a → are_hex_digits field ≡ b
+        → cond (a && b) (Some (hex_value 0 field)) None ≡ Some n → IsWord n × (field ≡ hex_text 32 n)
     split true false ha hb e = absurd cc
     split false true ha hb e = absurd cc
     split false false ha hb e = absurd cc

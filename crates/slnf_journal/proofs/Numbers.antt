@@ -14,7 +14,8 @@ pub sixteens : (i : ℕ) → i < 32 → 16 ^ i ≤ 16 ^ 31
 sixteens i below = let le : i ≤ 31 = omega arith in let some : 0 < 16 = omega arith in pow-le-pow_right {n = 16} some le
 
 pub own : IsNumeralModel (λ ds. all_ascii_digits ds ≡ true) (decimal_value 0)
-own = numerals_by_fold (λ ds. all_ascii_digits ds ≡ true) tells_all_ascii_digits decimal_value (record { empty = λ n. refl; more = λ n c cs h. refl })
+own = numerals_by_fold (λ ds. all_ascii_digits ds ≡ true) tells_all_ascii_digits decimal_value
+    (record { empty = λ n. refl; more = λ n c cs h. refl })
 
 -- ---- decimals
 
@@ -67,8 +68,14 @@ too_long least end ds high long =
     elim (cases_Bool (is_decimal ds)) [
       | inr not ↦ ap (λ b. cond b (within least end (decimal_value 0 ds)) None) (sym not)
       | inl is ↦ elim (cases_lt (decimal_value 0 ds) end) [
-        | inl small ↦ absurd (omega (arith, length-decimal-le 19 (decimal_value 0 ds) (omega arith) (omega arith) (omega arith), ap length (decimal_is ds is (omega arith))))
-        | inr past ↦ sym (ap (λ b. cond b (within least end (decimal_value 0 ds)) None) is ∙ past_end least end (decimal_value 0 ds) past)
+        | inl small ↦ absurd (omega (
+          arith,
+          length-decimal-le 19 (decimal_value 0 ds)
+              (omega arith) (omega arith) (omega arith),
+          ap length (decimal_is ds is (omega arith)),
+        ))
+        | inr past ↦ sym (ap (λ b. cond b (within least end (decimal_value 0 ds)) None) is
+            ∙ past_end least end (decimal_value 0 ds) past)
       ]
     ]
 

@@ -26,11 +26,13 @@ use Rattle.slnf_journal.proofs.Forms.{exact_parts}
 
 -- ---- a line's fields and its entry
 
-ended : (entry : Entry) (number : ℕ) (left : List (List ℕ)) (e : Entry) → ending_at entry number left ≡ Ok e → (left ≡ []) × (entry ≡ e)
+ended : (entry : Entry) (number : ℕ) (left : List (List ℕ)) (e : Entry) →
+    ending_at entry number left ≡ Ok e → (left ≡ []) × (entry ≡ e)
 ended entry number [] e h = (refl, cc)
 ended entry number (field ∷ left) e h = absurd cc
 
-not_ended : (entry : Entry) (number : ℕ) (left : List (List ℕ)) (bad : ℕ) → ending_at entry number left ≡ Err bad → (left ≢ []) × (bad ≡ number)
+not_ended : (entry : Entry) (number : ℕ) (left : List (List ℕ)) (bad : ℕ) →
+    ending_at entry number left ≡ Err bad → (left ≢ []) × (bad ≡ number)
 not_ended entry number [] bad h = absurd cc
 not_ended entry number (field ∷ left) bad h = (λ none. cons_nil field left none, cc)
   where
@@ -49,7 +51,8 @@ line_ok left e h =
     subst (λ x. Fits x × (left ≡ entry_fields x)) end.1
     (t.0, t.1 ∙ ap (λ l. entry_fields o.0.0 ++ l) end.0 ∙ append-nil (entry_fields o.0.0))
 
-parts_again : (e : Entry) (more : List (List ℕ)) → Fits e → parts_in (all_of (entry_fields e ++ more)) ≡ Ok (e, record { number = 1 + length (entry_fields e); left = more })
+parts_again : (e : Entry) (more : List (List ℕ)) → Fits e →
+    parts_in (all_of (entry_fields e ++ more)) ≡ Ok (e, record { number = 1 + length (entry_fields e); left = more })
 parts_again e more fits = exact_parts.again 1 e more fits
 
 pub line_again : (e : Entry) → Fits e → entry_in (all_of (entry_fields e)) ≡ Ok e
@@ -59,12 +62,20 @@ line_again e fits =
     ∙ ap (λ r. r >>= (λ x. ending_at x.0 x.1.number x.1.left)) (parts_again e [] fits)
 
 -- behind a whole line's fields stands one more, and so it is no beginning of another's
-alone : (e f : Entry) (left : List (List ℕ)) → Fits e → Fits f → left ≢ [] → take (length (entry_fields e) + 1) (entry_fields f) ≡ take (length (entry_fields e) + 1) (entry_fields e ++ left) → ⊥
+alone : (e f : Entry) (left : List (List ℕ)) → Fits e → Fits f → left ≢ [] → take
+    (length (entry_fields e) + 1) (entry_fields f) ≡ take (length (entry_fields e) + 1) (entry_fields e ++ left) → ⊥
 alone e f left fe ff some h =
     let cut = begins_so 1 (entry_fields f) (entry_fields e) left h in
     let here = ap (λ l. parts_in (all_of l)) (append-nil (entry_fields f)) in
-    let there : parts_in (all_of (entry_fields f)) ≡ Ok (e, record { number = 1 + length (entry_fields e); left = cut.0 }) = ap (λ l. parts_in (all_of l)) cut.1 ∙ parts_again e cut.0 fe in
-    let pair : (f, record { number = 1 + length (entry_fields f); left = [] }) ≡ (e, record { number = 1 + length (entry_fields e); left = cut.0 }) =
+    let there : parts_in (all_of (entry_fields f)) ≡ Ok (
+      e,
+      record {
+        number = 1 + length (entry_fields e);
+        left = cut.0;
+      },
+    ) = ap (λ l. parts_in (all_of l)) cut.1 ∙ parts_again e cut.0 fe in
+    let pair : (f, record { number = 1 + length (entry_fields f); left = [] })
+    ≡ (e, record { number = 1 + length (entry_fields e); left = cut.0 }) =
     ok_is _ _ (sym (parts_again f [] ff) ∙ here ∙ there) in
     let none : [] ≡ cut.0 = ap (λ (y : Entry × Fields). y.1.left) pair in
     some (no_first left (ap (λ l. take 1 l) none ∙ cut.2))
@@ -88,10 +99,12 @@ line_bad left bad h =
           before = f.before;
           counts = omega (arith, f.place);
           some = (f.one, f.fits, f.same);
-          none = λ e fits same. f.none e [] fits (ap (λ l. take (suc f.before) l) (append-nil (entry_fields e)) ∙ ap (λ n. take n (entry_fields e)) (sym more) ∙ same ∙ ap (λ n. take n left) more);
+          none = λ e fits same. f.none e [] fits (ap (λ l. take (suc f.before) l) (append-nil (entry_fields e))
+              ∙ ap (λ n. take n (entry_fields e)) (sym more) ∙ same ∙ ap (λ n. take n left) more);
         }
 
-    behind : (left : List (List ℕ)) (bad : ℕ) (x : Entry × Fields) → parts_in (all_of left) ≡ Ok x → ending_at x.0 x.1.number x.1.left ≡ Err bad → IsFirstBad left bad
+    behind : (left : List (List ℕ)) (bad : ℕ) (x : Entry × Fields) →
+        parts_in (all_of left) ≡ Ok x → ending_at x.0 x.1.number x.1.left ≡ Err bad → IsFirstBad left bad
     behind left bad x e1 e2 =
         let t = exact_parts.takes (all_of left) x e1 in
         let n = not_ended x.0 x.1.number x.1.left bad e2 in
@@ -104,12 +117,14 @@ line_bad left bad h =
         }
       where
         take_alls : (xs ys : List (List ℕ)) → take (length xs) xs ≡ take (length xs) (xs ++ ys)
-        take_alls xs ys = ap (λ l. take (length xs) l) (sym (append-nil xs)) ∙ take-append_seam xs [] ∙ sym (take-append_seam xs ys)
+        take_alls xs ys = ap (λ l. take (length xs) l) (sym (append-nil xs))
+            ∙ take-append_seam xs [] ∙ sym (take-append_seam xs ys)
 
 earlier : (left : List (List ℕ)) (j k : ℕ) (f : IsFirstBad left j) (g : IsFirstBad left k) → f.before < g.before → ⊥
 earlier left j k f g less =
     let le : f.before + 1 ≤ g.before = omega arith in
-    f.none g.some.0 g.some.1 (sym (take-take (f.before + 1) g.before (entry_fields g.some.0) le) ∙ ap (λ l. take (f.before + 1) l) g.some.2 ∙ take-take (f.before + 1) g.before left le)
+    f.none g.some.0 g.some.1 (sym (take-take (f.before + 1) g.before (entry_fields g.some.0) le)
+    ∙ ap (λ l. take (f.before + 1) l) g.some.2 ∙ take-take (f.before + 1) g.before left le)
 
 one_first : (left : List (List ℕ)) (j k : ℕ) → IsFirstBad left j → IsFirstBad left k → j ≡ k
 one_first left j k f g =
@@ -184,7 +199,8 @@ reply_plain Absent h = (refl, tt)
 fields_plain : (r : Request) (q : Reply) → FitsRequest r → FitsReply q → ArePlain (request_fields r ++ reply_fields q)
 fields_plain (Read key) q h g = (refl, (plain_hex key.0, reply_plain q g))
 fields_plain (PutIfAbsent key value) q h g = (refl, (plain_hex key.0, (plain_hex value.0, reply_plain q g)))
-fields_plain (ReplaceIf key version value) q h g = (refl, (plain_hex key.0, (plain_stamp version h.1, (plain_hex value.0, reply_plain q g))))
+fields_plain (ReplaceIf key version value) q h g =
+    (refl, (plain_hex key.0, (plain_stamp version h.1, (plain_hex value.0, reply_plain q g))))
 fields_plain (DeleteIf key version) q h g = (refl, (plain_hex key.0, (plain_stamp version h.1, reply_plain q g)))
 
 entry_plain : (e : Entry) → Fits e → ArePlain (entry_fields e)
@@ -204,13 +220,15 @@ entry_plain e f = (
 
 -- ---- the line of fields
 
-join_split : (field : List ℕ) (fields : List (List ℕ)) → ArePlain (field ∷ fields) → parts_at 32 (join_with_byte 32 (field ∷ fields)) ≡ field ∷ fields
+join_split : (field : List ℕ) (fields : List (List ℕ)) →
+    ArePlain (field ∷ fields) → parts_at 32 (join_with_byte 32 (field ∷ fields)) ≡ field ∷ fields
 join_split field [] p = slice_split_none (λ b. b == 32) field (plain_lacks 32 field (omega arith) p.0)
 join_split field (next ∷ fields) p =
     slice_split_at (λ b. b == 32) field 32 (join_with_byte 32 (next ∷ fields)) (plain_lacks 32 field (omega arith) p.0) refl
     ∙ ap (λ l. field ∷ l) (join_split next fields p.1)
 
-join_one_line : (field : List ℕ) (fields : List (List ℕ)) → ArePlain (field ∷ fields) → Lacks 10 (join_with_byte 32 (field ∷ fields))
+join_one_line : (field : List ℕ) (fields : List (List ℕ)) →
+    ArePlain (field ∷ fields) → Lacks 10 (join_with_byte 32 (field ∷ fields))
 join_one_line field [] p = plain_lacks 10 field (omega arith) p.0
 join_one_line field (next ∷ fields) p =
     All-append (λ b. (b == 10) ≡ false) field (32 ∷ join_with_byte 32 (next ∷ fields)) (plain_lacks 10 field (omega arith) p.0)
@@ -221,10 +239,14 @@ abbrev pub bare_line : Entry → List ℕ
 bare_line e = join_with_byte 32 (entry_fields e)
 
 pub bare_fields : (e : Entry) → Fits e → parts_at 32 (bare_line e) ≡ entry_fields e
-bare_fields e f = join_split (decimal e.stamp) (decimal e.shard ∷ decimal e.incarnation ∷ decimal e.item ∷ (request_fields e.request ++ reply_fields e.reply)) (entry_plain e f)
+bare_fields e f = join_split (decimal e.stamp)
+    (decimal e.shard ∷ decimal e.incarnation ∷ decimal e.item ∷ (request_fields e.request ++ reply_fields e.reply))
+    (entry_plain e f)
 
 pub bare_one_line : (e : Entry) → Fits e → Lacks 10 (bare_line e)
-bare_one_line e f = join_one_line (decimal e.stamp) (decimal e.shard ∷ decimal e.incarnation ∷ decimal e.item ∷ (request_fields e.request ++ reply_fields e.reply)) (entry_plain e f)
+bare_one_line e f = join_one_line (decimal e.stamp)
+    (decimal e.shard ∷ decimal e.incarnation ∷ decimal e.item ∷ (request_fields e.request ++ reply_fields e.reply))
+    (entry_plain e f)
 
 -- what is read as an entry is its line
 pub line_is : (text : List ℕ) (e : Entry) → parts_at 32 text ≡ entry_fields e → text ≡ bare_line e
@@ -240,7 +262,8 @@ request_line : (r : Request) → request_text r ≡ join_with_byte 32 (request_f
 unfolding request_text
 request_line (Read key) = refl
 request_line (PutIfAbsent key value) = ap (λ l. codes "put " ++ l) (joined_two (hex_text 32 key.0) (hex_text 32 value.0))
-request_line (ReplaceIf key version value) = ap (λ l. codes "replace " ++ l) (joined_three (hex_text 32 key.0) (decimal version) (hex_text 32 value.0))
+request_line (ReplaceIf key version value) =
+    ap (λ l. codes "replace " ++ l) (joined_three (hex_text 32 key.0) (decimal version) (hex_text 32 value.0))
 request_line (DeleteIf key version) = ap (λ l. codes "delete " ++ l) (joined_two (hex_text 32 key.0) (decimal version))
 
 reply_line : (r : Reply) → reply_text r ≡ join_with_byte 32 (reply_fields r)
@@ -249,15 +272,18 @@ reply_line (Done version) = refl
 reply_line (Found value version) = ap (λ l. codes "found " ++ l) (joined_two (hex_text 32 value.0) (decimal version))
 reply_line Absent = refl
 
-join_cons : (field : List ℕ) (fields : List (List ℕ)) → 0 < length fields → join_with_byte 32 (field ∷ fields) ≡ field ++ (32 ∷ join_with_byte 32 fields)
+join_cons : (field : List ℕ) (fields : List (List ℕ)) →
+    0 < length fields → join_with_byte 32 (field ∷ fields) ≡ field ++ (32 ∷ join_with_byte 32 fields)
 join_cons field [] some = absurd (omega arith)
 join_cons field (next ∷ fields) some = refl
 
-join_both : (xs ys : List (List ℕ)) → 0 < length xs → 0 < length ys → join_with_byte 32 (xs ++ ys) ≡ join_with_byte 32 xs ++ (32 ∷ join_with_byte 32 ys)
+join_both : (xs ys : List (List ℕ)) → 0 < length xs →
+    0 < length ys → join_with_byte 32 (xs ++ ys) ≡ join_with_byte 32 xs ++ (32 ∷ join_with_byte 32 ys)
 join_both [] ys some more = absurd (omega arith)
 join_both (x ∷ []) ys some more = join_cons x ys more
 join_both (x ∷ y ∷ xs) ys some more =
-    ap (λ l. x ++ (32 ∷ l)) (join_both (y ∷ xs) ys (omega arith) more) ∙ sym (append_assoc x (32 ∷ join_with_byte 32 (y ∷ xs)) (32 ∷ join_with_byte 32 ys))
+    ap (λ l. x ++ (32 ∷ l)) (join_both (y ∷ xs) ys (omega arith) more)
+    ∙ sym (append_assoc x (32 ∷ join_with_byte 32 (y ∷ xs)) (32 ∷ join_with_byte 32 ys))
 
 some_request : (r : Request) → 0 < length (request_fields r)
 some_request (Read key) = omega arith
@@ -274,15 +300,21 @@ pub entry_line : (e : Entry) → entry_text e ≡ bare_line e ++ 10 ∷ []
 unfolding entry_text
 entry_line e =
     let both = request_fields e.request ++ reply_fields e.reply in
-    let some : 0 < length both = omega (arith, length-append (request_fields e.request) (reply_fields e.reply), some_request e.request) in
+    let some : 0 < length both =
+    omega (arith, length-append (request_fields e.request) (reply_fields e.reply), some_request e.request) in
     let words : request_text e.request ++ (32 ∷ reply_text e.reply) ≡ join_with_byte 32 both =
-    ap (λ l. l ++ (32 ∷ reply_text e.reply)) (request_line e.request) ∙ ap (λ l. join_with_byte 32 (request_fields e.request) ++ (32 ∷ l)) (reply_line e.reply)
+    ap (λ l. l ++ (32 ∷ reply_text e.reply)) (request_line e.request)
+    ∙ ap (λ l. join_with_byte 32 (request_fields e.request) ++ (32 ∷ l)) (reply_line e.reply)
     ∙ sym (join_both (request_fields e.request) (reply_fields e.reply) (some_request e.request) (some_reply e.reply)) in
-    let last : decimal e.item ++ (32 ∷ join_with_byte 32 both) ≡ join_with_byte 32 (decimal e.item ∷ both) = sym (join_cons (decimal e.item) both some) in
-    regroup (decimal e.stamp) (decimal e.shard) (decimal e.incarnation) (decimal e.item) (request_text e.request) (reply_text e.reply)
-    ∙ ap (λ t. (decimal e.stamp ++ (32 ∷ (decimal e.shard ++ (32 ∷ (decimal e.incarnation ++ (32 ∷ (decimal e.item ++ (32 ∷ t)))))))) ++ 10 ∷ []) words
+    let last : decimal e.item ++ (32 ∷ join_with_byte 32 both) ≡ join_with_byte 32 (decimal e.item ∷ both) =
+    sym (join_cons (decimal e.item) both some) in
+    regroup (decimal e.stamp) (decimal e.shard) (decimal e.incarnation)
+    (decimal e.item) (request_text e.request) (reply_text e.reply)
+    ∙ ap (λ t. (decimal e.stamp ++ (32 ∷ (decimal e.shard
+    ++ (32 ∷ (decimal e.incarnation ++ (32 ∷ (decimal e.item ++ (32 ∷ t)))))))) ++ 10 ∷ []) words
     ∙ ap (λ l. (decimal e.stamp ++ (32 ∷ (decimal e.shard ++ (32 ∷ (decimal e.incarnation ++ (32 ∷ l)))))) ++ 10 ∷ []) last
   where
     regroup : (a b c d r q : List ℕ) →
-        a ++ 32 ∷ [] ++ b ++ 32 ∷ [] ++ c ++ 32 ∷ [] ++ d ++ 32 ∷ [] ++ r ++ 32 ∷ [] ++ q ++ 10 ∷ [] ≡ (a ++ (32 ∷ (b ++ (32 ∷ (c ++ (32 ∷ (d ++ (32 ∷ (r ++ (32 ∷ q)))))))))) ++ 10 ∷ []
+        a ++ 32 ∷ [] ++ b ++ 32 ∷ [] ++ c ++ 32 ∷ [] ++ d ++ 32 ∷ [] ++ r
+        ++ 32 ∷ [] ++ q ++ 10 ∷ [] ≡ (a ++ (32 ∷ (b ++ (32 ∷ (c ++ (32 ∷ (d ++ (32 ∷ (r ++ (32 ∷ q)))))))))) ++ 10 ∷ []
     regroup a b c d r q = simp append_assoc

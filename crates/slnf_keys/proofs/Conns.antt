@@ -11,9 +11,11 @@ use Rattle.slnf_keys.specs.Values.{conn_by, conn_with, conn_number, conn_of}
 abbrev conn_at : (by_outside : Bool) (state : ℕ) → 1 ≤ state → state ≤ 8 → Conn
 conn_at by_outside state low high = record { by_outside = by_outside; state = state; from_one = low; to_eight = high }
 
-conn_by-state : (b : Bool) (s : ℕ) (low high : Bool) (e : nat_le 1 s ≡ low) (f : nat_le s 8 ≡ high) (p : 1 ≤ s) (q : s ≤ 8) → conn_by b s low high e f ≡ Some (conn_at b s p q)
+conn_by-state : (b : Bool) (s : ℕ) (low high : Bool) (e : nat_le 1 s ≡ low)
+    (f : nat_le s 8 ≡ high) (p : 1 ≤ s) (q : s ≤ 8) → conn_by b s low high e f ≡ Some (conn_at b s p q)
 conn_by-state b s true true e f p q =
-    ap (λ (x : 1 ≤ s). Some (conn_at b s x (leb-true s 8 f))) (le_prop _ p) ∙ ap (λ (x : s ≤ 8). Some (conn_at b s p x)) (le_prop _ q)
+    ap (λ (x : 1 ≤ s). Some (conn_at b s x (leb-true s 8 f))) (le_prop _ p)
+    ∙ ap (λ (x : s ≤ 8). Some (conn_at b s p x)) (le_prop _ q)
 conn_by-state b s true false e f p q = let h : 8 < s = leb-false _ _ f in absurd (omega arith)
 conn_by-state b s false high e f p q = let h : s < 1 = leb-false _ _ e in absurd (omega arith)
 
@@ -37,7 +39,8 @@ flag-flag_of n false h = grind (arith, nat_tests)
 conn_of-parts : (b : Bool) (n s : ℕ) → n / 2 ^ 8 ≡ flag b → n % 2 ^ 8 ≡ s → conn_of n ≡ conn_with b s
 unfolding conn_of
 conn_of-parts b n s high low =
-    ap (λ (f : Option Bool). option_and_then (λ by. conn_with by (n % 2 ^ 8)) f) (ap flag_of high ∙ flag_of-flag b) ∙ ap (λ x. conn_with b x) low
+    ap (λ (f : Option Bool). option_and_then (λ by. conn_with by (n % 2 ^ 8)) f) (ap flag_of high ∙ flag_of-flag b)
+    ∙ ap (λ x. conn_with b x) low
 
 -- a connection's number is read
 pub conn_of-conn_number : (value : Conn) → conn_of (conn_number value) ≡ Some value
@@ -46,13 +49,16 @@ conn_of-conn_number value =
     let low = value.from_one in
     let high = value.to_eight in
     let by = value.by_outside in
-    conn_of-parts by (flag by * 2 ^ 8 + value.state) value.state (omega arith) (omega arith) ∙ conn_with-state by value.state low high
+    conn_of-parts by (flag by * 2 ^ 8 + value.state) value.state (omega arith) (omega arith)
+    ∙ conn_with-state by value.state low high
 
-and_then_at : {A B : Type 0} (f : A → Option B) (o : Option A) (y : B) → option_and_then f o ≡ Some y → (x : A) × (o ≡ Some x) × (f x ≡ Some y)
+and_then_at : {A B : Type 0} (f : A → Option B) (o : Option A) (y : B)
+    → option_and_then f o ≡ Some y → (x : A) × (o ≡ Some x) × (f x ≡ Some y)
 and_then_at f (Some x) y h = (x, refl, h)
 and_then_at f None y h = cc
 
-conn_by-parts : (b : Bool) (s : ℕ) (low high : Bool) (e : nat_le 1 s ≡ low) (f : nat_le s 8 ≡ high) (v : Conn) → conn_by b s low high e f ≡ Some v → (v.by_outside ≡ b) × (v.state ≡ s)
+conn_by-parts : (b : Bool) (s : ℕ) (low high : Bool) (e : nat_le 1 s ≡ low) (f : nat_le s 8 ≡ high) (v : Conn)
+    → conn_by b s low high e f ≡ Some v → (v.by_outside ≡ b) × (v.state ≡ s)
 conn_by-parts b s true true e f v h =
     let same = same_Some _ _ h in
     (ap (λ (x : Conn). x.by_outside) (sym same), ap (λ (x : Conn). x.state) (sym same))

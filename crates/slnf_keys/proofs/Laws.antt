@@ -19,7 +19,8 @@ pub use Rattle.slnf_keys.proofs.Conns.{conn_of-conn_number, conn_number-conn_of}
 pub flow_key-coded : IsCoded flow_key_number flow_key_of IsFlowKey
 unfolding flow_key_number flow_key_of
 flow_key-coded =
-    single-coded kind.Flow (λ parts. record { proto = parts.proto; inside = parts.first }) (λ key. key.proto) (λ key. key.inside) (λ key. refl) (λ parts. refl) (λ parts. refl)
+    single-coded kind.Flow (λ parts. record { proto = parts.proto; inside = parts.first })
+    (λ key. key.proto) (λ key. key.inside) (λ key. refl) (λ parts. refl) (λ parts. refl)
 
 pub flow_key_number-tag : (key : FlowKey) → IsFlowKey key → flow_key_number key / 2 ^ 120 ≡ kind_tag kind.Flow
 unfolding flow_key_number
@@ -29,7 +30,8 @@ flow_key_number-tag key h = single_number-tag kind.Flow key.proto key.inside h
 pub port_key-coded : IsCoded port_key_number port_key_of IsPortKey
 unfolding port_key_number port_key_of
 port_key-coded =
-    single-coded kind.Port (λ parts. record { proto = parts.proto; outside = parts.first }) (λ key. key.proto) (λ key. key.outside) (λ key. refl) (λ parts. refl) (λ parts. refl)
+    single-coded kind.Port (λ parts. record { proto = parts.proto; outside = parts.first })
+    (λ key. key.proto) (λ key. key.outside) (λ key. refl) (λ parts. refl) (λ parts. refl)
 
 pub port_key_number-tag : (key : PortKey) → IsPortKey key → port_key_number key / 2 ^ 120 ≡ kind_tag kind.Port
 unfolding port_key_number
@@ -39,7 +41,8 @@ port_key_number-tag key h = single_number-tag kind.Port key.proto key.outside h
 pub pin_key-coded : IsCoded pin_key_number pin_key_of IsPinKey
 unfolding pin_key_number pin_key_of
 pin_key-coded =
-    single-coded kind.Pin (λ parts. record { proto = parts.proto; client = parts.first }) (λ key. key.proto) (λ key. key.client) (λ key. refl) (λ parts. refl) (λ parts. refl)
+    single-coded kind.Pin (λ parts. record { proto = parts.proto; client = parts.first })
+    (λ key. key.proto) (λ key. key.client) (λ key. refl) (λ parts. refl) (λ parts. refl)
 
 pub pin_key_number-same : (a b : PinKey) → IsPinKey a → IsPinKey b → pin_key_number a ≡ pin_key_number b → a ≡ b
 pin_key_number-same a b fits_a fits_b e = coded_same pin_key_number pin_key_of IsPinKey pin_key-coded a b fits_a fits_b e
@@ -65,7 +68,8 @@ unfolding conn_key_number
 conn_key_number-tag key h = key_number-tag kind.Conn key.proto key.inside key.outside h.0 h.1
 
 -- keys of different kinds have different numbers, since their tags differ
-pub kinds_apart : (one other : Kind) (m n : ℕ) → ¬ (kind_tag one ≡ kind_tag other) → m / 2 ^ 120 ≡ kind_tag one → n / 2 ^ 120 ≡ kind_tag other → m ≡ n → ⊥
+pub kinds_apart : (one other : Kind) (m n : ℕ) → ¬ (kind_tag one ≡ kind_tag other)
+    → m / 2 ^ 120 ≡ kind_tag one → n / 2 ^ 120 ≡ kind_tag other → m ≡ n → ⊥
 kinds_apart one other m n differ tag_of_m tag_of_n e = differ (omega (arith, tag_of_m, tag_of_n))
 
 -- a flow's record
@@ -103,4 +107,7 @@ claim-coded =
 
 -- a connection, whose type keeps its range
 pub conn-coded : IsCoded conn_number conn_of (λ value. Unit {0})
-conn-coded = record { reads = λ value fits. conn_of-conn_number value; has = λ number value found. (conn_number-conn_of number value found, tt) }
+conn-coded = record {
+  reads = λ value fits. conn_of-conn_number value;
+  has = λ number value found. (conn_number-conn_of number value found, tt);
+}

@@ -51,7 +51,13 @@ record Fields (n t q s f : ℕ) : Type 0 where
   first : n ≡ ((t * 2 ^ 24 + q * 2 ^ 16) * 2 ^ 48 + s) * 2 ^ 48 + f
 
 fields : (t q s f : ℕ) → q < 2 ^ 8 → s < 2 ^ 48 → f < 2 ^ 48 → Fields (t * 2 ^ 120 + q * 2 ^ 112 + s * 2 ^ 48 + f) t q s f
-fields t q s f a b c = record { tag = omega arith; proto = omega arith; zeros = omega arith; second = omega arith; first = omega arith }
+fields t q s f a b c = record {
+  tag = omega arith;
+  proto = omega arith;
+  zeros = omega arith;
+  second = omega arith;
+  first = omega arith;
+}
 
 proto_small : (p : Proto) → proto_number p < 2 ^ 8
 proto_small Tcp = omega arith
@@ -75,7 +81,8 @@ same_Parts a b p f s =
     ap (λ x. make x a.first a.second) p ∙ ap (λ x. make b.proto x a.second) f ∙ ap (λ x. make b.proto b.first x) s
 
 -- each kind's number is read
-pub parts_of-key_number : (k : Kind) (p : Proto) (first second : Pair) → IsPair first → IsPair second → parts_of k (key_number k p first second) ≡ Some (record { proto = p; first = first; second = second })
+pub parts_of-key_number : (k : Kind) (p : Proto) (first second : Pair) → IsPair first → IsPair second
+    → parts_of k (key_number k p first second) ≡ Some (record { proto = p; first = first; second = second })
 unfolding parts_of key_number parts_with
 parts_of-key_number k p first second hf hs =
     let n = kind_tag k * 2 ^ 120 + proto_number p * 2 ^ 112 + pair_number second * 2 ^ 48 + pair_number first in
@@ -87,9 +94,11 @@ parts_of-key_number k p first second hf hs =
     let zeros : (n / 2 ^ 96 % 2 ^ 16 == 0) ≡ true = eq-eqb _ _ at.zeros in
     let proto : proto_with (n / 2 ^ 112 % 2 ^ 8) ≡ Some p = ap proto_with at.proto ∙ proto_with-proto_number p in
     rw (tag, zeros, proto)
-    (ap (λ (x : Parts). Some x) (same_Parts _ _ refl (ap pair_at at.first ∙ pair_at-low _ first hf) (ap pair_at at.second ∙ pair_at-low _ second hs)))
+    (ap (λ (x : Parts). Some x) (same_Parts _ _ refl
+    (ap pair_at at.first ∙ pair_at-low _ first hf) (ap pair_at at.second ∙ pair_at-low _ second hs)))
 
-parts_from : (b : Bool) (o : Option Proto) (n : ℕ) (r : Parts) → (if b then option_map (parts_with n) o else None) ≡ Some r → (b ≡ true) × (o ≡ Some r.proto) × (r ≡ parts_with n r.proto)
+parts_from : (b : Bool) (o : Option Proto) (n : ℕ) (r : Parts) → (if b then option_map (parts_with n) o else None)
+    ≡ Some r → (b ≡ true) × (o ≡ Some r.proto) × (r ≡ parts_with n r.proto)
 unfolding parts_with
 parts_from true (Some p) n r h =
     let same : parts_with n p ≡ r = same_Some _ _ h in
@@ -104,7 +113,8 @@ and_both true false h = cc
 and_both false b h = cc
 
 -- what is read of a number has that number
-pub key_number-parts_of : (k : Kind) (n : ℕ) (r : Parts) → parts_of k n ≡ Some r → (key_number k r.proto r.first r.second ≡ n) × IsPair r.first × IsPair r.second
+pub key_number-parts_of : (k : Kind) (n : ℕ) (r : Parts)
+    → parts_of k n ≡ Some r → (key_number k r.proto r.first r.second ≡ n) × IsPair r.first × IsPair r.second
 unfolding parts_of key_number parts_with
 key_number-parts_of k n r h =
     let read = parts_from _ _ n r h in
@@ -135,7 +145,8 @@ unfolding key_number pair_number zeros
 second-zeros k p first h = let low = h.addr_fits in let high = h.port_fits in omega arith
 
 -- the number of a key with one pair is read
-pub single_of-single_number : (k : Kind) (p : Proto) (first : Pair) → IsPair first → single_of k (single_number k p first) ≡ Some (record { proto = p; first = first; second = record { addr = 0; port = 0 } })
+pub single_of-single_number : (k : Kind) (p : Proto) (first : Pair) → IsPair first → single_of k
+    (single_number k p first) ≡ Some (record { proto = p; first = first; second = record { addr = 0; port = 0 } })
 unfolding single_of single_number zeros
 single_of-single_number k p first h =
     let second : key_number k p first zeros / 2 ^ 48 % 2 ^ 48 ≡ 0 = second-zeros k p first h in
@@ -146,7 +157,8 @@ single_from : (b : Bool) (o : Option Parts) (r : Parts) → (if b then o else No
 single_from true o r h = (refl, h)
 single_from false o r h = cc
 
-second-none : (k : Kind) (n : ℕ) (r : Parts) → key_number k r.proto r.first r.second ≡ n → IsPair r.first → IsPair r.second → n / 2 ^ 48 % 2 ^ 48 ≡ 0 → pair_number r.second ≡ 0
+second-none : (k : Kind) (n : ℕ) (r : Parts) → key_number k r.proto r.first r.second ≡ n
+    → IsPair r.first → IsPair r.second → n / 2 ^ 48 % 2 ^ 48 ≡ 0 → pair_number r.second ≡ 0
 unfolding key_number
 second-none k n r e f s none =
     let low = pair_number-below r.first f in
@@ -154,7 +166,8 @@ second-none k n r e f s none =
     omega arith
 
 -- what is read of a number with one pair has that number
-pub single_number-single_of : (k : Kind) (n : ℕ) (r : Parts) → single_of k n ≡ Some r → (single_number k r.proto r.first ≡ n) × IsPair r.first
+pub single_number-single_of : (k : Kind) (n : ℕ) (r : Parts)
+    → single_of k n ≡ Some r → (single_number k r.proto r.first ≡ n) × IsPair r.first
 unfolding single_of single_number zeros
 single_number-single_of k n r h =
     let read = single_from _ _ r h in
@@ -185,7 +198,8 @@ pair_number-pair_of n p h =
     (omega arith, rw (← read.1) (IsPair-pair_at n))
 
 -- the tag stands in the highest bits
-pub key_number-tag : (k : Kind) (p : Proto) (first second : Pair) → IsPair first → IsPair second → key_number k p first second / 2 ^ 120 ≡ kind_tag k
+pub key_number-tag : (k : Kind) (p : Proto) (first second : Pair)
+    → IsPair first → IsPair second → key_number k p first second / 2 ^ 120 ≡ kind_tag k
 unfolding key_number
 key_number-tag k p first second hf hs =
     let small = proto_small p in

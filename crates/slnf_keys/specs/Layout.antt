@@ -40,7 +40,8 @@ single_number kind proto pair = key_number kind proto pair (record { addr = 0; p
 unfoldable pub parts_of : Kind → ℕ → Option Parts
 parts_of kind number =
     if (number / 2 ^ 120 == kind_tag kind) && (number / 2 ^ 96 % 2 ^ 16 == 0)
-    then option_map (λ proto. record { proto = proto; first = pair_at number; second = pair_at (number / 2 ^ 48) }) (proto_with (number / 2 ^ 112 % 2 ^ 8))
+    then option_map (λ proto. record { proto = proto; first = pair_at number; second = pair_at (number / 2 ^ 48) })
+    (proto_with (number / 2 ^ 112 % 2 ^ 8))
     else None
 
 -- the parts of the number of a key with one pair

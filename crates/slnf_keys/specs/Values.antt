@@ -35,7 +35,8 @@ claim_of number =
     if nat_lt number (2 ^ 80) then Some (record { incarnation = number / 2 ^ 48; inside = pair_at number }) else None
 
 -- the connection with this opener and this state, by whether the state is 1 to 8
-abbrev pub conn_by : (by_outside : Bool) (state : ℕ) (from_one to_eight : Bool) → nat_le 1 state ≡ from_one → nat_le state 8 ≡ to_eight → Option Conn
+abbrev pub conn_by : (by_outside : Bool) (state : ℕ) (from_one to_eight : Bool)
+    → nat_le 1 state ≡ from_one → nat_le state 8 ≡ to_eight → Option Conn
 conn_by by_outside state true true low high =
     Some (record { by_outside = by_outside; state = state; from_one = leb-true _ _ low; to_eight = leb-true _ _ high })
 conn_by by_outside state true false low high = None

@@ -19,10 +19,12 @@ pub same-empty : IsSameMap no_pins empty
 same-empty = record { agrees = λ proto client fits. refl; whole = λ proto client fits none. refl }
 
 -- no access of a packet changes what a key has
-held_in : (state : LbState) (packet : Packet) (choice : Pair) (k : ℕ) (held : Held) (e : Entry) → e.request ≡ asks_in state packet choice → cell_step k (Some held) e ≡ Some held
+held_in : (state : LbState) (packet : Packet) (choice : Pair) (k : ℕ) (held : Held) (e : Entry)
+    → e.request ≡ asks_in state packet choice → cell_step k (Some held) e ≡ Some held
 held_in Forward packet choice k held e asked = read_step k (Some held) e _ asked
 held_in Put packet choice k held e asked = put_step k held e _ _ asked
 held_in Return packet choice k held e asked = read_step k (Some held) e _ asked
 
-pub held_stays : (flight : Flying) (k : ℕ) (held : Held) (e : Entry) → e.request ≡ lb_asks flight → cell_step k (Some held) e ≡ Some held
+pub held_stays : (flight : Flying) (k : ℕ) (held : Held) (e : Entry)
+    → e.request ≡ lb_asks flight → cell_step k (Some held) e ≡ Some held
 held_stays flight k held e asked = held_in flight.state flight.packet flight.choice k held e asked

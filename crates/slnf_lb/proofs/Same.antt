@@ -46,7 +46,8 @@ same_pair a b h =
 
 -- and one pair passes it
 pub pair_same : (a b : Pair) → a ≡ b → is_same_pair a b ≡ true
-pair_same a b h = and_from _ _ (eq-eqb a.addr b.addr (ap (λ (p : Pair). p.addr) h)) (eq-eqb a.port b.port (ap (λ (p : Pair). p.port) h))
+pair_same a b h = and_from _ _ (eq-eqb a.addr b.addr (ap (λ (p : Pair). p.addr) h))
+    (eq-eqb a.port b.port (ap (λ (p : Pair). p.port) h))
 
 -- protocols that pass the test are one
 pub same_proto : (a b : Proto) → is_same_proto a b ≡ true → a ≡ b
@@ -76,15 +77,19 @@ none_some h = cc
 -- a read leaves every cell
 pub read_step : (k : ℕ) (held : Option Held) (e : Entry) (key : Key) → e.request ≡ Read key → cell_step k held e ≡ held
 read_step k held e key h =
-    ap (λ (request : Request). cond (eqb (key_of request) k) (cell_after request e.stamp held) held) h ∙ same_either (eqb key.0 k) held
+    ap (λ (request : Request). cond (eqb (key_of request) k) (cell_after request e.stamp held) held) h
+    ∙ same_either (eqb key.0 k) held
 
 -- a put leaves every cell that has something
-pub put_step : (k : ℕ) (held : Held) (e : Entry) (key : Key) (value : Value) → e.request ≡ PutIfAbsent key value → cell_step k (Some held) e ≡ Some held
+pub put_step : (k : ℕ) (held : Held) (e : Entry) (key : Key) (value : Value)
+    → e.request ≡ PutIfAbsent key value → cell_step k (Some held) e ≡ Some held
 put_step k held e key value h =
-    ap (λ (request : Request). cond (eqb (key_of request) k) (cell_after request e.stamp (Some held)) (Some held)) h ∙ same_either (eqb key.0 k) (Some held)
+    ap (λ (request : Request). cond (eqb (key_of request) k) (cell_after request e.stamp (Some held)) (Some held)) h
+    ∙ same_either (eqb key.0 k) (Some held)
 
 -- a put fills its own cell
-put_fills : (e : Entry) (key : Key) (value : Value) → e.request ≡ PutIfAbsent key value → cell_step key.0 None e ≡ Some (record { value = value; version = e.stamp })
+put_fills : (e : Entry) (key : Key) (value : Value)
+    → e.request ≡ PutIfAbsent key value → cell_step key.0 None e ≡ Some (record { value = value; version = e.stamp })
 put_fills e key value h =
     ap (λ (request : Request). cond (eqb (key_of request) key.0) (cell_after request e.stamp None) None) h
     ∙ ap (λ (b : Bool). cond b (Some (record { value = value; version = e.stamp })) None) (eq-eqb key.0 key.0 refl)
@@ -97,11 +102,13 @@ other_step k held e h = ap (λ (b : Bool). cond b (cell_after e.request e.stamp 
 pub same-equal : (kept : Pins) (cells next : Cells) → ((k : ℕ) → next k ≡ cells k) → IsSameMap kept cells → IsSameMap kept next
 same-equal kept cells next equal same = record {
   agrees = λ proto client fits. same.agrees proto client fits ∙ ap backend_in (sym (equal (key_number proto client)));
-  whole = λ proto client fits none. equal (key_number proto client) ∙ same.whole proto client fits (ap backend_in (sym (equal (key_number proto client))) ∙ none);
+  whole = λ proto client fits none. equal (key_number proto client)
+      ∙ same.whole proto client fits (ap backend_in (sym (equal (key_number proto client))) ∙ none);
 }
 
 -- a put that found something leaves every cell
-pub put_leaves : (cells : Cells) (e : Entry) (key : Key) (value : Value) (held : Held) → e.request ≡ PutIfAbsent key value → cells key.0 ≡ Some held → (k : ℕ) → map_after cells (e ∷ []) k ≡ cells k
+pub put_leaves : (cells : Cells) (e : Entry) (key : Key) (value : Value) (held : Held)
+    → e.request ≡ PutIfAbsent key value → cells key.0 ≡ Some held → (k : ℕ) → map_after cells (e ∷ []) k ≡ cells k
 put_leaves cells e key value held asked there k = elim (eqb_tells key.0 k) [
   | inl one ↦
       let at : cells k ≡ Some held = ap cells (sym one.1) ∙ there in
@@ -110,56 +117,75 @@ put_leaves cells e key value held asked there k = elim (eqb_tells key.0 k) [
 ]
 
 -- after a read it keeps what it kept
-pub same-read : (kept : Pins) (cells : Cells) (e : Entry) (key : Key) → e.request ≡ Read key → IsSameMap kept cells → IsSameMap kept (map_after cells (e ∷ []))
+pub same-read : (kept : Pins) (cells : Cells) (e : Entry) (key : Key)
+    → e.request ≡ Read key → IsSameMap kept cells → IsSameMap kept (map_after cells (e ∷ []))
 same-read kept cells e key h same = same-equal kept cells _ (λ k. read_step k (cells k) e key h) same
 
 -- the pins with one that is there already
-pub same-again : (kept : Pins) (cells : Cells) (proto : Proto) (client backend : Pair) → IsPair client → kept proto client ≡ Some backend → IsSameMap kept cells → IsSameMap (with_pin kept proto client backend) cells
+pub same-again : (kept : Pins) (cells : Cells) (proto : Proto) (client backend : Pair) → IsPair client
+    → kept proto client ≡ Some backend → IsSameMap kept cells → IsSameMap (with_pin kept proto client backend) cells
 same-again kept cells proto client backend fits known same = record {
   agrees = λ other_proto other other_fits.
-      cond_both (is_same_proto other_proto proto && is_same_pair other client) (Some backend) (kept other_proto other) (λ (o : Option Pair). o ≡ pin_at cells other_proto other)
+      cond_both (is_same_proto other_proto proto && is_same_pair other client)
+      (Some backend) (kept other_proto other) (λ (o : Option Pair). o ≡ pin_at cells other_proto other)
       (λ t. let parts = and_parts (is_same_proto other_proto proto) (is_same_pair other client) t in
       let p : other_proto ≡ proto = same_proto other_proto proto parts.0 in
       let c : other ≡ client = same_pair other client parts.1 in
-      sym known ∙ (ap (λ (q : Proto). kept q client) (sym p) ∙ ap (λ (q : Pair). kept other_proto q) (sym c)) ∙ same.agrees other_proto other other_fits)
+      sym known ∙ (ap (λ (q : Proto). kept q client) (sym p) ∙ ap (λ (q : Pair). kept other_proto q) (sym c))
+      ∙ same.agrees other_proto other other_fits)
       (λ f. same.agrees other_proto other other_fits);
   whole = same.whole;
 }
 
 -- keys with one number are of one client
-one_client : (proto other_proto : Proto) (client other : Pair) → IsPair client → IsPair other → key_number proto client ≡ key_number other_proto other → (other_proto ≡ proto) × (other ≡ client)
+one_client : (proto other_proto : Proto) (client other : Pair) → IsPair client
+    → IsPair other → key_number proto client ≡ key_number other_proto other → (other_proto ≡ proto) × (other ≡ client)
 one_client proto other_proto client other fits other_fits h =
-    let one : record { proto = proto; client = client } ≡ (let r : PinKey = record { proto = other_proto; client = other } in r) = pin_key_number-same _ _ fits other_fits h in
+    let one : record { proto = proto; client = client }
+    ≡ (let r : PinKey = record { proto = other_proto; client = other } in r) =
+    pin_key_number-same _ _ fits other_fits h in
     (sym (ap (λ (k : PinKey). k.proto) one), sym (ap (λ (k : PinKey). k.client) one))
 
 -- the key of another client has another number
-other_key : (proto other_proto : Proto) (client other : Pair) → IsPair client → IsPair other → (is_same_proto other_proto proto && is_same_pair other client) ≡ false → eqb (key_number proto client) (key_number other_proto other) ≡ false
-other_key proto other_proto client other fits other_fits apart = elim (eqb_tells (key_number proto client) (key_number other_proto other)) [
-  | inl same ↦
-      let one = one_client proto other_proto client other fits other_fits same.1 in
-      let both : (is_same_proto other_proto proto && is_same_pair other client) ≡ true = and_from _ _ (proto_same other_proto proto one.0) (pair_same other client one.1) in
-      cc
-  | inr differ ↦ differ.0
-]
+other_key : (proto other_proto : Proto) (client other : Pair)
+    → IsPair client → IsPair other → (is_same_proto other_proto proto && is_same_pair other client) ≡ false
+    → eqb (key_number proto client) (key_number other_proto other) ≡ false
+other_key proto other_proto client other fits other_fits apart =
+    elim (eqb_tells (key_number proto client) (key_number other_proto other)) [
+      | inl same ↦
+          let one = one_client proto other_proto client other fits other_fits same.1 in
+          let both : (is_same_proto other_proto proto && is_same_pair other client) ≡ true =
+          and_from _ _ (proto_same other_proto proto one.0) (pair_same other client one.1) in
+          cc
+      | inr differ ↦ differ.0
+    ]
 
 -- a pin that was put
-put_pin : (cells : Cells) (e : Entry) (proto : Proto) (client backend : Pair) → IsPair backend → e.request ≡ PutIfAbsent (pin_key proto client) (pin_value backend) → cells (key_number proto client) ≡ None → pin_at (map_after cells (e ∷ [])) proto client ≡ Some backend
+put_pin : (cells : Cells) (e : Entry) (proto : Proto) (client backend : Pair)
+    → IsPair backend → e.request ≡ PutIfAbsent (pin_key proto client) (pin_value backend)
+    → cells (key_number proto client) ≡ None → pin_at (map_after cells (e ∷ [])) proto client ≡ Some backend
 put_pin cells e proto client backend fits asked absent =
-    ap backend_in (ap (λ (held : Option Held). cell_step (key_number proto client) held e) absent ∙ put_fills e (pin_key proto client) (pin_value backend) asked)
+    ap backend_in (ap (λ (held : Option Held). cell_step (key_number proto client) held e) absent
+    ∙ put_fills e (pin_key proto client) (pin_value backend) asked)
     ∙ ap (option_map (λ (pin : Pin). pin.backend)) (pin_of-pin_number (record { backend = backend }) fits)
 
 -- after a put that was done it keeps the new pin
-pub same-put : (kept : Pins) (cells : Cells) (e : Entry) (proto : Proto) (client backend : Pair) → IsPair client → IsPair backend → e.request ≡ PutIfAbsent (pin_key proto client) (pin_value backend) → cells (key_number proto client) ≡ None → IsSameMap kept cells → IsSameMap (with_pin kept proto client backend) (map_after cells (e ∷ []))
+pub same-put : (kept : Pins) (cells : Cells) (e : Entry) (proto : Proto) (client backend : Pair)
+    → IsPair client → IsPair backend → e.request ≡ PutIfAbsent (pin_key proto client) (pin_value backend)
+    → cells (key_number proto client) ≡ None → IsSameMap kept cells
+    → IsSameMap (with_pin kept proto client backend) (map_after cells (e ∷ []))
 same-put kept cells e proto client backend fits backend_fits asked absent same =
     let after = map_after cells (e ∷ []) in
     let key_is : key_of e.request ≡ key_number proto client = ap key_of asked in
     let put = put_pin cells e proto client backend backend_fits asked absent in
-    let stays = λ (other_proto : Proto) (other : Pair) (other_fits : IsPair other) (f : (is_same_proto other_proto proto && is_same_pair other client) ≡ false).
+    let stays = λ (other_proto : Proto) (other : Pair) (other_fits :
+    IsPair other) (f : (is_same_proto other_proto proto && is_same_pair other client) ≡ false).
     other_step (key_number other_proto other) (cells (key_number other_proto other)) e
     (ap (λ (n : ℕ). eqb n (key_number other_proto other)) key_is ∙ other_key proto other_proto client other fits other_fits f) in
     record {
       agrees = λ other_proto other other_fits.
-          cond_both (is_same_proto other_proto proto && is_same_pair other client) (Some backend) (kept other_proto other) (λ (o : Option Pair). o ≡ pin_at after other_proto other)
+          cond_both (is_same_proto other_proto proto && is_same_pair other client)
+          (Some backend) (kept other_proto other) (λ (o : Option Pair). o ≡ pin_at after other_proto other)
           (λ t. let parts = and_parts (is_same_proto other_proto proto) (is_same_pair other client) t in
           let p : other_proto ≡ proto = same_proto other_proto proto parts.0 in
           let c : other ≡ client = same_pair other client parts.1 in
@@ -170,7 +196,8 @@ same-put kept cells e proto client backend fits backend_fits asked absent same =
           (λ t. let parts = and_parts (is_same_proto other_proto proto) (is_same_pair other client) t in
           let p : other_proto ≡ proto = same_proto other_proto proto parts.0 in
           let c : other ≡ client = same_pair other client parts.1 in
-          let there : pin_at after other_proto other ≡ Some backend = (ap (λ (q : Proto). pin_at after q other) p ∙ ap (λ (q : Pair). pin_at after proto q) c) ∙ put in
+          let there : pin_at after other_proto other ≡ Some backend =
+          (ap (λ (q : Proto). pin_at after q other) p ∙ ap (λ (q : Pair). pin_at after proto q) c) ∙ put in
           absurd (none_some (sym none ∙ there)))
           (λ f. let stay = stays other_proto other other_fits f in
           stay ∙ same.whole other_proto other other_fits (ap backend_in (sym stay) ∙ none));

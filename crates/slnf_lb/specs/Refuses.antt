@@ -11,11 +11,14 @@ use Rattle.slnf_lb.specs.Flight.{Flying}
 use Rattle.slnf_lb.specs.Machine.{lb_begins}
 
 -- of two flights and a refusal, the refusal alone refuses
-refused : (first second : Bool) (a b : Flying) (reason : Reason) → (if first then StartGo a else (if second then StartGo b else StartOver Neither)) ≡ StartOver reason → reason ≡ Neither
+refused : (first second : Bool) (a b : Flying) (reason : Reason)
+    → (if first then StartGo a else (if second then StartGo b else StartOver Neither)) ≡ StartOver reason
+    → reason ≡ Neither
 refused true second a b reason h = cc
 refused false true a b reason h = cc
 refused false false a b reason h = cc
 
-pub lb_refuses : (service : Service) (active : List Pair) (incarnation number : ℕ) (packet : Packet) (reason : Reason) → lb_begins service active incarnation number packet ≡ StartOver reason → reason ≡ Neither
+pub lb_refuses : (service : Service) (active : List Pair) (incarnation number : ℕ) (packet : Packet) (reason : Reason)
+    → lb_begins service active incarnation number packet ≡ StartOver reason → reason ≡ Neither
 lb_refuses service active incarnation number packet reason h =
     refused (is_forward service packet) (is_return service packet) _ _ reason h

@@ -21,4 +21,5 @@ pin_at cells proto client = backend_in (cells (pin_key_number (record { proto = 
 -- The box has the pins of the store's map, and what the map has at a client's key is a pin.
 pub record IsSameMap (kept : Pins) (cells : Cells) : Type 0 where
   pub agrees : (proto : Proto) (client : Pair) → IsPair client → kept proto client ≡ pin_at cells proto client
-  pub whole : (proto : Proto) (client : Pair) → IsPair client → pin_at cells proto client ≡ None → cells (pin_key_number (record { proto = proto; client = client })) ≡ None
+  pub whole : (proto : Proto) (client : Pair) → IsPair client
+      → pin_at cells proto client ≡ None → cells (pin_key_number (record { proto = proto; client = client })) ≡ None

@@ -78,8 +78,10 @@ strong_from_order (e ∷ f ∷ es) h =
 order_from_pairs : (es : List Entry) → AllPairs Precedes es → InOrder es
 order_from_pairs [] h = tt
 order_from_pairs (e ∷ []) h = tt
-order_from_pairs (e ∷ f ∷ es) h =
-    (h 0 1 e (omega arith) (omega arith), order_from_pairs (f ∷ es) (λ i j d before inside. h (suc i) (suc j) d (omega arith) (omega arith)))
+order_from_pairs (e ∷ f ∷ es) h = (
+  h 0 1 e (omega arith) (omega arith),
+  order_from_pairs (f ∷ es) (λ i j d before inside. h (suc i) (suc j) d (omega arith) (omega arith)),
+)
 
 before_filtered : (p : Entry → Bool) (e : Entry) (es : List Entry) → AllBefore e es → AllBefore e (filter p es)
 before_filtered p e [] h = tt
@@ -102,13 +104,16 @@ same_head x y xs ys a b (inl same) j = sym same
 same_head x y xs ys a b (inr i) (inl same) = same
 same_head x y xs ys a b (inr i) (inr j) = absurd (precedes_both x y (before_in x y xs a.0 j) (before_in y x ys b.0 i))
 
-tail_in : (x y : Entry) (xs ys : List Entry) → x ≡ y → Strong (x ∷ xs) → ((z : Entry) → IsIn z (x ∷ xs) → IsIn z (y ∷ ys)) → (z : Entry) → IsIn z xs → IsIn z ys
+tail_in : (x y : Entry) (xs ys : List Entry) → x ≡ y
+    → Strong (x ∷ xs) → ((z : Entry) → IsIn z (x ∷ xs) → IsIn z (y ∷ ys)) → (z : Entry) → IsIn z xs → IsIn z ys
 tail_in x y xs ys head a f z i =
-    ⊎_elim (λ (same : y ≡ z). let twice : Precedes x z = before_in x z xs a.0 i in let self : Precedes z z = subst (λ (w : Entry). Precedes w z) (head ∙ same) twice in absurd (precedes_both z z self self))
+    ⊎_elim (λ (same : y ≡ z). let twice : Precedes x z = before_in x z xs a.0 i in let self : Precedes z z =
+    subst (λ (w : Entry). Precedes w z) (head ∙ same) twice in absurd (precedes_both z z self self))
     (λ rest. rest) (f z (inr i))
 
 -- two lists in strict order with the same members are one
-pub same_members : (xs ys : List Entry) → Strong xs → Strong ys → ((z : Entry) → IsIn z xs → IsIn z ys) → ((z : Entry) → IsIn z ys → IsIn z xs) → xs ≡ ys
+pub same_members : (xs ys : List Entry) → Strong xs
+    → Strong ys → ((z : Entry) → IsIn z xs → IsIn z ys) → ((z : Entry) → IsIn z ys → IsIn z xs) → xs ≡ ys
 same_members [] [] a b f g = refl
 same_members [] (y ∷ ys) a b f g = absurd (g y (inl refl))
 same_members (x ∷ xs) [] a b f g = absurd (f x (inl refl))
@@ -165,27 +170,33 @@ from_append shard (x ∷ xs) ys h k = (h.0, from_append shard xs ys h.1 k)
 all_from : (shard : ℕ) (hs : List (List Entry)) → AreHistories shard hs → AllFrom shard (all_of hs)
 all_from shard [] h = tt
 all_from shard (x ∷ hs) h =
-    from_append shard x (all_of hs) (from_in shard shard x (omega arith) (history_in shard x h.0)) (from_lower shard (shard + 1) (all_of hs) (omega arith) (all_from (shard + 1) hs h.1))
+    from_append shard x (all_of hs) (from_in shard shard x (omega arith) (history_in shard x h.0))
+    (from_lower shard (shard + 1) (all_of hs) (omega arith) (all_from (shard + 1) hs h.1))
 
-unlike_before : (e : Entry) (es rest : List Entry) → AllBefore e es → AllByRecursion (λ y. alike e y ≡ false) rest → AllByRecursion (λ y. alike e y ≡ false) (es ++ rest)
+unlike_before : (e : Entry) (es rest : List Entry) → AllBefore e es
+    → AllByRecursion (λ y. alike e y ≡ false) rest → AllByRecursion (λ y. alike e y ≡ false) (es ++ rest)
 unlike_before e [] rest h k = k
 unlike_before e (f ∷ fs) rest h k = (alike_precedes e f h.0, unlike_before e fs rest h.1 k)
 
-unlike_from : (e : Entry) (shard : ℕ) (rest : List Entry) → e.shard ≡ shard → AllFrom (shard + 1) rest → AllByRecursion (λ y. alike e y ≡ false) rest
+unlike_from : (e : Entry) (shard : ℕ) (rest : List Entry)
+    → e.shard ≡ shard → AllFrom (shard + 1) rest → AllByRecursion (λ y. alike e y ≡ false) rest
 unlike_from e shard [] same h = tt
 unlike_from e shard (f ∷ fs) same h = let above = h.0 in (alike_shards e f (λ k. omega arith), unlike_from e shard fs same h.1)
 
-distinct_append : (shard : ℕ) (xs rest : List Entry) → AllIn shard xs → Strong xs → AllFrom (shard + 1) rest → IsDistinct alike rest → IsDistinct alike (xs ++ rest)
+distinct_append : (shard : ℕ) (xs rest : List Entry)
+    → AllIn shard xs → Strong xs → AllFrom (shard + 1) rest → IsDistinct alike rest → IsDistinct alike (xs ++ rest)
 distinct_append shard [] rest a s f d = d
 distinct_append shard (x ∷ xs) rest a s f d =
-    IsDistinct-cons alike x (xs ++ rest) (unlike_before x xs rest s.0 (unlike_from x shard rest a.0 f)) (distinct_append shard xs rest a.1 s.1 f d)
+    IsDistinct-cons alike x (xs ++ rest) (unlike_before x xs rest s.0 (unlike_from x shard rest a.0 f))
+    (distinct_append shard xs rest a.1 s.1 f d)
 
 -- no event stands twice in the histories
 pub all_distinct : (shard : ℕ) (hs : List (List Entry)) → AreHistories shard hs → IsDistinct alike (all_of hs)
 unfolding IsDistinct
 all_distinct shard [] h = tt
 all_distinct shard (x ∷ hs) h =
-    distinct_append shard x (all_of hs) (history_in shard x h.0) (strong_from_order x (history_order shard x h.0)) (all_from (shard + 1) hs h.1) (all_distinct (shard + 1) hs h.1)
+    distinct_append shard x (all_of hs) (history_in shard x h.0)
+    (strong_from_order x (history_order shard x h.0)) (all_from (shard + 1) hs h.1) (all_distinct (shard + 1) hs h.1)
 
 -- the order of pairs of numbers
 abbrev pub event_cmp : ℕ × ℕ → ℕ × ℕ → Ordering
@@ -198,7 +209,8 @@ not_behind : (e f : Entry) → is_lt (event_cmp (f.stamp, f.shard) (e.stamp, e.s
 not_behind e f order apart = grind (arith, nat_tests)
 
 -- a sort by (stamp, shard) of entries with distinct events is in strict order
-pub sorted_in_order : (xs ys : List Entry) → IsPermutation xs ys → IsDistinct alike xs → IsSortedByKey (λ e. (e.stamp, e.shard)) event_cmp ys → InOrder ys
+pub sorted_in_order : (xs ys : List Entry) → IsPermutation xs ys
+    → IsDistinct alike xs → IsSortedByKey (λ e. (e.stamp, e.shard)) event_cmp ys → InOrder ys
 sorted_in_order xs ys same apart sorted =
     let key : Entry → ℕ × ℕ = λ e. (e.stamp, e.shard) in
     let distinct = IsDistinct-IsPermutation alike alike_flips xs ys same apart in

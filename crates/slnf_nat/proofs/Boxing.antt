@@ -61,7 +61,8 @@ same_pair a b h =
     pair_ext a.addr b.addr a.port b.port (eqb-true a.addr b.addr parts.0) (eqb-true a.port b.port parts.1)
 
 pub pair_same : (a b : Pair) → a ≡ b → is_same_pair a b ≡ true
-pair_same a b h = and_from _ _ (eq-eqb a.addr b.addr (ap (λ (p : Pair). p.addr) h)) (eq-eqb a.port b.port (ap (λ (p : Pair). p.port) h))
+pair_same a b h = and_from _ _ (eq-eqb a.addr b.addr (ap (λ (p : Pair). p.addr) h))
+    (eq-eqb a.port b.port (ap (λ (p : Pair). p.port) h))
 
 same_proto : (a b : Proto) → is_same_proto a b ≡ true → a ≡ b
 same_proto Tcp Tcp h = refl
@@ -70,7 +71,8 @@ same_proto Udp Tcp h = cc
 same_proto Udp Udp h = refl
 
 both_same : (p q : Proto) (a b : Pair) → (is_same_proto p q && is_same_pair a b) ≡ true → (q ≡ p) × (b ≡ a)
-both_same p q a b h = let parts = and_parts (is_same_proto p q) (is_same_pair a b) h in (sym (same_proto p q parts.0), sym (same_pair a b parts.1))
+both_same p q a b h = let parts = and_parts (is_same_proto p q) (is_same_pair a b) h in
+    (sym (same_proto p q parts.0), sym (same_pair a b parts.1))
 
 same_both : (p q : Proto) (a b : Pair) → q ≡ p → b ≡ a → (is_same_proto p q && is_same_pair a b) ≡ true
 same_both p q a b h k = and_from _ _ (eq-eqb _ _ (ap proto_number (sym h))) (pair_same a b (sym k))
@@ -88,7 +90,8 @@ boxed_same c cells next stay boxed = record {
 pub boxed_known : (nat : Nat) (c : List Flow) (cells : Cells) (packet : Packet) (choice : Option Pair) (port : Pair)
     → nat.is_out packet ≡ true → IsPair packet.source → flow_at cells packet.proto packet.source ≡ Some port
     → IsBoxed c cells
-    → (nat_verdict nat c (record { packet = packet; choice = choice }) ≡ Emit (Source port)) × IsBoxed (nat_next nat c (record { packet = packet; choice = choice })) cells
+    → (nat_verdict nat c (record { packet = packet; choice = choice }) ≡ Emit (Source port))
+    × IsBoxed (nat_next nat c (record { packet = packet; choice = choice })) cells
 boxed_known nat c cells packet choice port out fits there boxed =
     let known : pair_of c packet.proto packet.source ≡ Some port = boxed.agrees packet.proto packet.source fits ∙ there in
     (rw (out, known) refl, rw (out, known) boxed)
@@ -96,7 +99,8 @@ boxed_known nat c cells packet choice port out fits there boxed =
 -- one whose flow isn't there, without a choice
 pub boxed_none : (nat : Nat) (c : List Flow) (cells : Cells) (packet : Packet) → nat.is_out packet ≡ true
     → IsPair packet.source → flow_at cells packet.proto packet.source ≡ None → IsBoxed c cells
-    → (nat_verdict nat c (record { packet = packet; choice = None }) ≡ Dropped NoPort) × IsBoxed (nat_next nat c (record { packet = packet; choice = None })) cells
+    → (nat_verdict nat c (record { packet = packet; choice = None }) ≡ Dropped NoPort)
+    × IsBoxed (nat_next nat c (record { packet = packet; choice = None })) cells
 boxed_none nat c cells packet out fits none boxed =
     let known : pair_of c packet.proto packet.source ≡ None = boxed.agrees packet.proto packet.source fits ∙ none in
     (rw (out, known) refl, rw (out, known) boxed)
@@ -105,9 +109,11 @@ boxed_none nat c cells packet out fits none boxed =
 pub boxed_in : (nat : Nat) (c : List Flow) (cells : Cells) (packet : Packet) (choice : Option Pair) (inside : Pair)
     → nat.is_out packet ≡ false → nat.is_in packet ≡ true → IsPair inside
     → flow_at cells packet.proto inside ≡ Some packet.dest → IsBoxed c cells
-    → (nat_verdict nat c (record { packet = packet; choice = choice }) ≡ Emit (Dest inside)) × IsBoxed (nat_next nat c (record { packet = packet; choice = choice })) cells
+    → (nat_verdict nat c (record { packet = packet; choice = choice }) ≡ Emit (Dest inside))
+    × IsBoxed (nat_next nat c (record { packet = packet; choice = choice })) cells
 boxed_in nat c cells packet choice inside out comes fits there boxed =
-    let has : owner c packet.proto packet.dest ≡ Some inside = boxed.forth packet.proto inside packet.dest (boxed.agrees packet.proto inside fits ∙ there) in
+    let has : owner c packet.proto packet.dest ≡ Some inside =
+    boxed.forth packet.proto inside packet.dest (boxed.agrees packet.proto inside fits ∙ there) in
     (rw (out, comes, has) refl, rw out boxed)
 
 -- no flow of the box has a pair that no live flow has
@@ -123,7 +129,10 @@ boxed_free c cells proto port unnamed boxed = go (owner c proto port) refl
         absurd (unnamed g fits (sym (boxed.agrees proto g fits) ∙ known))
 
 -- A new flow.
-module _ (c : List Flow) (cells next : Cells) (own : Proto) (mine at : Pair) (mine_fits : IsPair mine) (here : flow_at next own mine ≡ Some at) (other : (proto : Proto) (inside : Pair) → IsPair inside → ((proto ≡ own) × (inside ≡ mine)) ⊎ (next (flow_key proto inside) ≡ cells (flow_key proto inside))) (absent : flow_at cells own mine ≡ None) (unnamed : IsUnnamed cells own at) (boxed : IsBoxed c cells) where
+module _ (c : List Flow) (cells next : Cells) (own : Proto) (mine at : Pair) (mine_fits : IsPair mine)
+    (here : flow_at next own mine ≡ Some at) (other : (proto : Proto) (inside : Pair) → IsPair inside
+    → ((proto ≡ own) × (inside ≡ mine)) ⊎ (next (flow_key proto inside) ≡ cells (flow_key proto inside)))
+    (absent : flow_at cells own mine ≡ None) (unnamed : IsUnnamed cells own at) (boxed : IsBoxed c cells) where
   abbrev pub new : Flow
   new = record { proto = own; inside = mine; outside = at }
 
@@ -143,7 +152,8 @@ module _ (c : List Flow) (cells next : Cells) (own : Proto) (mine at : Pair) (mi
       go true w o =
           let same : (proto ≡ own) × (inside ≡ mine) = both_same own proto mine inside w in
           sym (ap (λ q. flow_at next q inside) same.0 ∙ ap (flow_at next own) same.1 ∙ here)
-      go false w (inl same) = let t : (is_same_proto own proto && is_same_pair mine inside) ≡ true = same_both own proto mine inside same.0 same.1 in absurd (cc)
+      go false w (inl same) = let t : (is_same_proto own proto && is_same_pair mine inside) ≡ true =
+          same_both own proto mine inside same.0 same.1 in absurd (cc)
       go false w (inr stay) = boxed.agrees proto inside fits ∙ ap flow_in (sym stay)
 
   fits_all : (proto : Proto) (inside port : Pair) → pair_of (new ∷ c) proto inside ≡ Some port → IsPair inside
@@ -156,14 +166,16 @@ module _ (c : List Flow) (cells next : Cells) (own : Proto) (mine at : Pair) (mi
 
   back : (proto : Proto) (inside port : Pair) → owner (new ∷ c) proto port ≡ Some inside
       → pair_of (new ∷ c) proto inside ≡ Some port
-  back proto inside port h = go (is_same_proto own proto && is_same_pair at port) refl (is_same_proto own proto && is_same_pair mine inside) refl h
+  back proto inside port h = go (is_same_proto own proto && is_same_pair at port) refl
+      (is_same_proto own proto && is_same_pair mine inside) refl h
     where
       go : (b : Bool) → (is_same_proto own proto && is_same_pair at port) ≡ b → (d : Bool)
           → (is_same_proto own proto && is_same_pair mine inside) ≡ d → cond b (Some mine)
           (owner c proto port) ≡ Some inside → cond d (Some at) (pair_of c proto inside) ≡ Some port
       go true w true v h = ap (λ (p : Pair). Some p) (sym (both_same own proto at port w).1)
       go true w false v h =
-          let t : (is_same_proto own proto && is_same_pair mine inside) ≡ true = same_both own proto mine inside (both_same own proto at port w).0 (sym (same_Some mine inside h)) in
+          let t : (is_same_proto own proto && is_same_pair mine inside) ≡ true =
+          same_both own proto mine inside (both_same own proto at port w).0 (sym (same_Some mine inside h)) in
           absurd (cc)
       go false w true v h =
           let same : (proto ≡ own) × (inside ≡ mine) = both_same own proto mine inside v in
@@ -174,7 +186,8 @@ module _ (c : List Flow) (cells next : Cells) (own : Proto) (mine at : Pair) (mi
 
   forth : (proto : Proto) (inside port : Pair) → pair_of (new ∷ c) proto inside ≡ Some port
       → owner (new ∷ c) proto port ≡ Some inside
-  forth proto inside port h = go (is_same_proto own proto && is_same_pair at port) refl (is_same_proto own proto && is_same_pair mine inside) refl h
+  forth proto inside port h = go (is_same_proto own proto && is_same_pair at port) refl
+      (is_same_proto own proto && is_same_pair mine inside) refl h
     where
       go : (b : Bool) → (is_same_proto own proto && is_same_pair at port) ≡ b → (d : Bool)
           → (is_same_proto own proto && is_same_pair mine inside) ≡ d → cond d (Some at)
@@ -186,7 +199,8 @@ module _ (c : List Flow) (cells next : Cells) (own : Proto) (mine at : Pair) (mi
           let none : owner c proto port ≡ None = ap (λ q. owner c q port) same.0 ∙ ap (owner c own) same.1 ∙ free in
           absurd (cc)
       go false w true v h =
-          let t : (is_same_proto own proto && is_same_pair at port) ≡ true = same_both own proto at port (both_same own proto mine inside v).0 (sym (same_Some at port h)) in
+          let t : (is_same_proto own proto && is_same_pair at port) ≡ true =
+          same_both own proto at port (both_same own proto mine inside v).0 (sym (same_Some at port h)) in
           absurd (cc)
       go false w false v h = boxed.forth proto inside port h
 
@@ -197,10 +211,15 @@ module _ (c : List Flow) (cells next : Cells) (own : Proto) (mine at : Pair) (mi
 pub boxed_new : (nat : Nat) (c : List Flow) (cells next : Cells) (packet : Packet) (at : Pair)
     → nat.is_out packet ≡ true → nat.allows packet.source at ≡ true → IsPair packet.source
     → flow_at next packet.proto packet.source ≡ Some at
-    → ((proto : Proto) (inside : Pair) → IsPair inside → ((proto ≡ packet.proto) × (inside ≡ packet.source)) ⊎ (next (flow_key proto inside) ≡ cells (flow_key proto inside)))
+    → ((proto : Proto) (inside : Pair) → IsPair inside → ((proto ≡ packet.proto) × (inside ≡ packet.source))
+    ⊎ (next (flow_key proto inside) ≡ cells (flow_key proto inside)))
     → flow_at cells packet.proto packet.source ≡ None → IsUnnamed cells packet.proto at → IsBoxed c cells
-    → (nat_verdict nat c (record { packet = packet; choice = Some at }) ≡ Emit (Source at)) × IsBoxed (nat_next nat c (record { packet = packet; choice = Some at })) next
+    → (nat_verdict nat c (record { packet = packet; choice = Some at }) ≡ Emit (Source at))
+    × IsBoxed (nat_next nat c (record { packet = packet; choice = Some at })) next
 boxed_new nat c cells next packet at out has fits here other absent unnamed boxed =
     let known : pair_of c packet.proto packet.source ≡ None = boxed.agrees packet.proto packet.source fits ∙ absent in
-    let free : owner c packet.proto at ≡ None = boxed_free c cells packet.proto at unnamed boxed in
-    (rw (out, known, has, free) refl, rw (out, known, has, free) (boxed_put c cells next packet.proto packet.source at fits here other absent unnamed boxed))
+    let free : owner c packet.proto at ≡ None = boxed_free c cells packet.proto at unnamed boxed in (
+      rw (out, known, has, free) refl,
+      rw (out, known, has, free)
+          (boxed_put c cells next packet.proto packet.source at fits here other absent unnamed boxed),
+    )

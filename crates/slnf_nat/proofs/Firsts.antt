@@ -53,12 +53,14 @@ nat_steady nat (Sweep state proto port base) reply verdict h = absurd (cc)
 -- Each of its packets has its place at an entry of its own.
 pub nat_own_places : (nat : Nat) (begins : ℕ → ℕ → Stand NatFlight) (es : List Entry)
     → HasOwnPlaces (nat_scene nat begins) es
-nat_own_places nat begins es number e place decision at decided there = go (is_in decision.first && is_no_flow decision.verdict) there
+nat_own_places nat begins es number e place decision at decided there =
+    go (is_in decision.first && is_no_flow decision.verdict) there
   where
     go : (b : Bool) → slice_get es (cond b (first_with es number (slice_get es number)) number) ≡ Some place
         → (place.incarnation ≡ e.incarnation) × (place.item ≡ e.item)
     go true h =
-        let first : slice_get es (first_own e.incarnation e.item es) ≡ Some place = ap (λ o. slice_get es (first_with es number o)) (sym at) ∙ h in
+        let first : slice_get es (first_own e.incarnation e.item es) ≡ Some place =
+        ap (λ o. slice_get es (first_with es number o)) (sym at) ∙ h in
         own_parts e.incarnation e.item place (first_own_is e.incarnation e.item es place first)
     go false h =
         let same : e ≡ place = same_Some e place (sym at ∙ h) in

@@ -53,12 +53,14 @@ kept_or_written (DeleteIf key version) stamp (Some there) held h = go (there.ver
 pub own_parts : (i k : ℕ) (e : Entry) → is_of i k e ≡ true → (e.incarnation ≡ i) × (e.item ≡ k)
 own_parts i k e h = let parts = and_parts (e.incarnation == i) (e.item == k) h in (eqb-true _ _ parts.0, eqb-true _ _ parts.1)
 
-module _ (before : List Entry) (e : Entry) (cells : Cells) (fresh : AllByRecursion (λ f. key_of f.request ≡ key_of e.request → f.stamp < e.stamp) before) where
+module _ (before : List Entry) (e : Entry) (cells : Cells)
+    (fresh : AllByRecursion (λ f. key_of f.request ≡ key_of e.request → f.stamp < e.stamp) before) where
   -- an earlier entry on the key has another stamp
   not_again : (key version i k : ℕ) → key_of e.request ≡ key → e.stamp ≡ version → IsStampBy before key version i k
       → ⊥
   not_again key version i k on at made =
-      some_entry-each (λ f. (key_of f.request ≡ key) × (f.stamp ≡ version) × (f.incarnation ≡ i) × (f.item ≡ k)) (λ f. key_of f.request ≡ key_of e.request → f.stamp < e.stamp) ⊥ before made fresh
+      some_entry-each (λ f. (key_of f.request ≡ key) × (f.stamp ≡ version) × (f.incarnation ≡ i) × (f.item ≡ k))
+      (λ f. key_of f.request ≡ key_of e.request → f.stamp < e.stamp) ⊥ before made fresh
       (λ f p less. let lower : f.stamp < e.stamp = less (p.0 ∙ sym on) in let same : f.stamp ≡ version = p.1 in omega arith)
 
   -- the map's versions, and one item for each entry
@@ -70,25 +72,32 @@ module _ (before : List Entry) (e : Entry) (cells : Cells) (fresh : AllByRecursi
       versions key held there = go (same_or_not key (key_of e.request))
         where
           more : cells key ≡ Some held → IsStampOn (before ++ e ∷ []) key held.version
-          more was = some_entry-more (λ f. (key_of f.request ≡ key) × (f.stamp ≡ held.version)) before (e ∷ []) (stamped.versions key held was)
+          more was = some_entry-more (λ f. (key_of f.request ≡ key) × (f.stamp ≡ held.version)) before
+              (e ∷ []) (stamped.versions key held was)
 
           by : key ≡ key_of e.request → (cells (key_of e.request) ≡ Some held) ⊎ (held.version ≡ e.stamp)
               → IsStampOn (before ++ e ∷ []) key held.version
           by own (inl was) = more (ap cells own ∙ was)
-          by own (inr new) = some_entry-last (λ f. (key_of f.request ≡ key) × (f.stamp ≡ held.version)) before e (sym own, sym new)
+          by own (inr new) = some_entry-last (λ f. (key_of f.request ≡ key) × (f.stamp ≡ held.version)) before e
+              (sym own, sym new)
 
           go : (key ≡ key_of e.request) ⊎ (key ≡ key_of e.request → ⊥) → IsStampOn (before ++ e ∷ []) key held.version
-          go (inl own) = by own (kept_or_written e.request e.stamp (cells (key_of e.request)) held (sym (own_cell cells e) ∙ ap (after cells e) (sym own) ∙ there))
+          go (inl own) = by own (kept_or_written e.request e.stamp
+              (cells (key_of e.request)) held (sym (own_cell cells e) ∙ ap (after cells e) (sym own) ∙ there))
           go (inr apart) = more (sym (other_cell cells e key apart) ∙ there)
 
       makers : (key version i k j l : ℕ) → IsStampBy (before ++ e ∷ []) key version i k
           → IsStampBy (before ++ e ∷ []) key version j l → (i ≡ j) × (k ≡ l)
       makers key version i k j l one two =
-          go (some_entry-parts (λ f. (key_of f.request ≡ key) × (f.stamp ≡ version) × (f.incarnation ≡ i) × (f.item ≡ k)) before e one)
-          (some_entry-parts (λ f. (key_of f.request ≡ key) × (f.stamp ≡ version) × (f.incarnation ≡ j) × (f.item ≡ l)) before e two)
+          go (some_entry-parts
+          (λ f. (key_of f.request ≡ key) × (f.stamp ≡ version) × (f.incarnation ≡ i) × (f.item ≡ k)) before e one)
+          (some_entry-parts
+          (λ f. (key_of f.request ≡ key) × (f.stamp ≡ version) × (f.incarnation ≡ j) × (f.item ≡ l)) before e two)
         where
-          go : IsStampBy before key version i k ⊎ ((key_of e.request ≡ key) × (e.stamp ≡ version) × (e.incarnation ≡ i) × (e.item ≡ k))
-              → IsStampBy before key version j l ⊎ ((key_of e.request ≡ key) × (e.stamp ≡ version) × (e.incarnation ≡ j) × (e.item ≡ l))
+          go : IsStampBy before key version i k
+              ⊎ ((key_of e.request ≡ key) × (e.stamp ≡ version) × (e.incarnation ≡ i) × (e.item ≡ k))
+              → IsStampBy before key version j l
+              ⊎ ((key_of e.request ≡ key) × (e.stamp ≡ version) × (e.incarnation ≡ j) × (e.item ≡ l))
               → (i ≡ j) × (k ≡ l)
           go (inl a) (inl b) = stamped.makers key version i k j l a b
           go (inl a) (inr b) = absurd (not_again key version i k b.0 b.1 a)
@@ -96,17 +105,21 @@ module _ (before : List Entry) (e : Entry) (cells : Cells) (fresh : AllByRecursi
           go (inr a) (inr b) = (sym a.2 ∙ b.2, sym a.3 ∙ b.3)
 
 -- What holds of another item's flight holds after the entry.
-module _ (nat : Nat) (is_nat : IsNat nat) (base_at : ℕ → ℕ) (before : List Entry) (e : Entry) (cells next : Cells) (carries : Carries base_at before e cells next) where
+module _ (nat : Nat) (is_nat : IsNat nat) (base_at : ℕ → ℕ) (before : List Entry)
+    (e : Entry) (cells next : Cells) (carries : Carries base_at before e cells next) where
   owned_after : (i k : ℕ) (packet : Packet) (number version : ℕ) → is_of i k e ≡ false
       → (IsCurrent base_at before i → IsOwned before cells i k packet.proto (tried nat packet number) version packet.source)
       → IsCurrent base_at (before ++ e ∷ []) i
       → IsOwned (before ++ e ∷ []) next i k packet.proto (tried nat packet number) version packet.source
   owned_after i k packet number version other owned running =
-      let was : IsOwned before cells i k packet.proto (tried nat packet number) version packet.source = owned (each-parts (λ f. base_at f.incarnation ≤ i) before e running).0 in
-      let now = carries.owned i k packet.proto (tried nat packet number) version packet.source other running (is_nat.candidate_fits packet.proto packet.source number) was in
+      let was : IsOwned before cells i k packet.proto (tried nat packet number) version packet.source =
+      owned (each-parts (λ f. base_at f.incarnation ≤ i) before e running).0 in
+      let now = carries.owned i k packet.proto (tried nat packet number) version packet.source other running
+      (is_nat.candidate_fits packet.proto packet.source number) was in
       record {
         claimed = now.0;
-        made = some_entry-more (λ f. (key_of f.request ≡ port_key packet.proto (tried nat packet number)) × (f.stamp ≡ version) × (f.incarnation ≡ i) × (f.item ≡ k)) before (e ∷ []) was.made;
+        made = some_entry-more (λ f. (key_of f.request ≡ port_key packet.proto (tried nat packet number))
+            × (f.stamp ≡ version) × (f.incarnation ≡ i) × (f.item ≡ k)) before (e ∷ []) was.made;
         unnamed = now.1;
       }
 
@@ -130,8 +143,10 @@ module _ (nat : Nat) (is_nat : IsNat nat) (base_at : ℕ → ℕ) (before : List
       → HoldsSweep base_at before cells proto port base state
       → HoldsSweep base_at (before ++ e ∷ []) next proto port base state
   sweep_after proto port base SweepPort fits h = tt
-  sweep_after proto port base (SweepFlow inside version) fits h =
-      (seen_after proto port base version h.0, λ held there since. h.1 held (carries.stays proto port version held fits h.0.stamped there since) since)
+  sweep_after proto port base (SweepFlow inside version) fits h = (
+    seen_after proto port base version h.0,
+    λ held there since. h.1 held (carries.stays proto port version held fits h.0.stamped there since) since,
+  )
   sweep_after proto port base (Remove version) fits h = (
     seen_after proto port base version h.0,
     λ held there since.
@@ -229,7 +244,11 @@ ranged_by nat base_at i (In state packet) h = h
 ranged_by nat base_at i (Sweep state proto port base) h = h
 
 -- What an entry of any flight leaves.
-module _ (nat : Nat) (is_nat : IsNat nat) (base_at : ℕ → ℕ) (before : List Entry) (e : Entry) (cells : Cells) (stamped : HasStamps before cells) (live : IsLive nat cells) (fresh : AllByRecursion (λ f. key_of f.request ≡ key_of e.request → f.stamp < e.stamp) before) (epochs : AllByRecursion (λ f. base_at f.incarnation ≤ base_at e.incarnation) before) (based : base_at e.incarnation ≤ e.incarnation) (replied : e.reply ≡ reply_to e.request e.stamp (cells (key_of e.request))) where
+module _ (nat : Nat) (is_nat : IsNat nat) (base_at : ℕ → ℕ) (before : List Entry)
+    (e : Entry) (cells : Cells) (stamped : HasStamps before cells) (live : IsLive nat cells)
+    (fresh : AllByRecursion (λ f. key_of f.request ≡ key_of e.request → f.stamp < e.stamp) before)
+    (epochs : AllByRecursion (λ f. base_at f.incarnation ≤ base_at e.incarnation) before) (based : base_at e.incarnation
+    ≤ e.incarnation) (replied : e.reply ≡ reply_to e.request e.stamp (cells (key_of e.request))) where
   running : IsCurrent base_at before e.incarnation
   running = running_now nat is_nat base_at before e cells stamped live fresh epochs based replied
 
@@ -237,26 +256,35 @@ module _ (nat : Nat) (is_nat : IsNat nat) (base_at : ℕ → ℕ) (before : List
       → IsRanged nat base_at e.incarnation (Out state i packet)
       → HoldsOut nat base_at before cells e.incarnation e.item packet state
       → Outcome nat base_at before e cells (after cells e) (Out state i packet)
-  out_outcome Look i packet asked ranged h = look nat is_nat base_at before e cells stamped live fresh epochs based replied i packet asked ranged
-  out_outcome (Try number) i packet asked ranged h = trying nat is_nat base_at before e cells stamped live fresh epochs based replied number i packet asked ranged h
-  out_outcome (Confirm number version) i packet asked ranged h = confirming nat is_nat base_at before e cells stamped live fresh epochs based replied number version i packet asked ranged h.0 (h.1 running)
-  out_outcome (Release number version port) i packet asked ranged h = (releasing nat is_nat base_at before e cells stamped live fresh epochs based replied number version port i packet asked ranged (h running)).1
-  out_outcome Last i packet asked ranged h = last nat is_nat base_at before e cells stamped live fresh epochs based replied i packet asked ranged
+  out_outcome Look i packet asked ranged h =
+      look nat is_nat base_at before e cells stamped live fresh epochs based replied i packet asked ranged
+  out_outcome (Try number) i packet asked ranged h =
+      trying nat is_nat base_at before e cells stamped live fresh epochs based replied number i packet asked ranged h
+  out_outcome (Confirm number version) i packet asked ranged h = confirming nat is_nat base_at
+      before e cells stamped live fresh epochs based replied number version i packet asked ranged h.0 (h.1 running)
+  out_outcome (Release number version port) i packet asked ranged h = (releasing nat is_nat base_at
+      before e cells stamped live fresh epochs based replied number version port i packet asked ranged (h running)).1
+  out_outcome Last i packet asked ranged h =
+      last nat is_nat base_at before e cells stamped live fresh epochs based replied i packet asked ranged
 
   sweep_outcome : (state : SweepState) (proto : Proto) (port : Pair) (base : ℕ)
       → e.request ≡ nat_asks nat (Sweep state proto port base)
       → IsRanged nat base_at e.incarnation (Sweep state proto port base)
       → HoldsSweep base_at before cells proto port base state → Outcome nat base_at before e cells (after cells e)
       (Sweep state proto port base)
-  sweep_outcome SweepPort proto port base asked ranged h = sweeping_port nat is_nat base_at before e cells stamped live fresh epochs based replied proto port base asked ranged
-  sweep_outcome (SweepFlow inside version) proto port base asked ranged h = sweeping_flow nat is_nat base_at before e cells stamped live fresh epochs based replied inside version proto port base asked h
-  sweep_outcome (Remove version) proto port base asked ranged h = removing nat is_nat base_at before e cells stamped live fresh epochs based replied version proto port base asked ranged h
+  sweep_outcome SweepPort proto port base asked ranged h = sweeping_port
+      nat is_nat base_at before e cells stamped live fresh epochs based replied proto port base asked ranged
+  sweep_outcome (SweepFlow inside version) proto port base asked ranged h = sweeping_flow
+      nat is_nat base_at before e cells stamped live fresh epochs based replied inside version proto port base asked h
+  sweep_outcome (Remove version) proto port base asked ranged h = removing
+      nat is_nat base_at before e cells stamped live fresh epochs based replied version proto port base asked ranged h
 
   pub outcome_of : (flight : NatFlight) → e.request ≡ nat_asks nat flight → IsRanged nat base_at e.incarnation flight
       → Holds nat base_at before cells e.incarnation e.item flight
       → Outcome nat base_at before e cells (after cells e) flight
   outcome_of (Out state i packet) asked ranged h = out_outcome state i packet asked ranged h
-  outcome_of (In state packet) asked ranged h = entering nat is_nat base_at before e cells stamped live fresh epochs based replied state packet asked ranged h
+  outcome_of (In state packet) asked ranged h =
+      entering nat is_nat base_at before e cells stamped live fresh epochs based replied state packet asked ranged h
   outcome_of (Sweep state proto port base) asked ranged h = sweep_outcome state proto port base asked ranged h
 
 -- one flight is one
@@ -264,7 +292,12 @@ pub same_flight : {F : Type 0} (a b : F) → Flies a ≡ Flies b → a ≡ b
 same_flight a b h = cc
 
 -- All flights after the entry.
-module _ (nat : Nat) (is_nat : IsNat nat) (base_at : ℕ → ℕ) (begins : ℕ → ℕ → Stand NatFlight) (before : List Entry) (e : Entry) (cells next : Cells) (stand then : ℕ → ℕ → Stand NatFlight) (flight : NatFlight) (stands : stand e.incarnation e.item ≡ Flies flight) (mine : then e.incarnation e.item ≡ nat_goes nat flight e.reply) (others : (i k : ℕ) → is_of i k e ≡ false → then i k ≡ stand i k) (ranges : (i k : ℕ) (first : NatFlight) → begins i k ≡ Flies first → IsRanged nat base_at i first) where
+module _ (nat : Nat) (is_nat : IsNat nat) (base_at : ℕ → ℕ) (begins : ℕ → ℕ → Stand NatFlight)
+    (before : List Entry) (e : Entry) (cells next : Cells)
+    (stand then : ℕ → ℕ → Stand NatFlight) (flight : NatFlight) (stands : stand e.incarnation e.item ≡ Flies flight)
+    (mine : then e.incarnation e.item ≡ nat_goes nat flight e.reply)
+    (others : (i k : ℕ) → is_of i k e ≡ false → then i k ≡ stand i k)
+    (ranges : (i k : ℕ) (first : NatFlight) → begins i k ≡ Flies first → IsRanged nat base_at i first) where
   pub flying_step : IsFlying nat base_at begins before cells stand → Outcome nat base_at before e cells next flight
       → IsFlying nat base_at begins (before ++ e ∷ []) next then
   flying_step flying outcome = record {
@@ -276,8 +309,10 @@ module _ (nat : Nat) (is_nat : IsNat nat) (base_at : ℕ → ℕ) (begins : ℕ 
           → BeganSo (first_of flight) st → (f : NatFlight) → st ≡ Flies f
           → (begins e.incarnation e.item ≡ Flies (first_of f)) × Holds nat base_at (before ++ e ∷ []) next e.incarnation e.item f
       at_own (Flies g) holds began f at =
-          let same : g ≡ f = same_flight g f at in
-          (flying.begun e.incarnation e.item flight stands ∙ ap (λ first. Flies first) (sym began ∙ ap first_of same), subst (Holds nat base_at (before ++ e ∷ []) next e.incarnation e.item) same holds)
+          let same : g ≡ f = same_flight g f at in (
+            flying.begun e.incarnation e.item flight stands ∙ ap (λ first. Flies first) (sym began ∙ ap first_of same),
+            subst (Holds nat base_at (before ++ e ∷ []) next e.incarnation e.item) same holds,
+          )
       at_own (Ends end) holds began f at = absurd (cc)
 
       known : (i k : ℕ) (f : NatFlight) → then i k ≡ Flies f
@@ -289,9 +324,16 @@ module _ (nat : Nat) (is_nat : IsNat nat) (base_at : ℕ → ℕ) (begins : ℕ 
           go true own =
               let parts : (e.incarnation ≡ i) × (e.item ≡ k) = own_parts i k e own in
               let here : then e.incarnation e.item ≡ Flies f = ap (λ j. then j e.item) parts.0 ∙ ap (then i) parts.1 ∙ at in
-              let r : (begins e.incarnation e.item ≡ Flies (first_of f)) × Holds nat base_at (before ++ e ∷ []) next e.incarnation e.item f = at_own (nat_goes nat flight e.reply) outcome.own (began_so nat flight e.reply) f (sym mine ∙ here) in
-              subst (λ j. (begins j k ≡ Flies (first_of f)) × Holds nat base_at (before ++ e ∷ []) next j k f) parts.0 (subst (λ l. (begins e.incarnation l ≡ Flies (first_of f)) × Holds nat base_at (before ++ e ∷ []) next e.incarnation l f) parts.1 r)
+              let r : (begins e.incarnation e.item ≡ Flies (first_of f)) × Holds nat base_at
+              (before ++ e ∷ []) next e.incarnation e.item f =
+              at_own (nat_goes nat flight e.reply) outcome.own (began_so nat flight e.reply) f (sym mine ∙ here) in
+              subst (λ j. (begins j k ≡ Flies (first_of f)) × Holds nat base_at (before ++ e ∷ []) next j k f) parts.0
+              (subst (λ l. (begins e.incarnation l ≡ Flies (first_of f))
+              × Holds nat base_at (before ++ e ∷ []) next e.incarnation l f) parts.1 r)
           go false other =
               let was : stand i k ≡ Flies f = sym (others i k other) ∙ at in
-              let began : begins i k ≡ Flies (first_of f) = flying.begun i k f was in
-              (began, holds_after nat is_nat base_at before e cells next outcome.carries i k f other (ranged_by nat base_at i f (ranges i k (first_of f) began)) (flying.holds i k f was))
+              let began : begins i k ≡ Flies (first_of f) = flying.begun i k f was in (
+                began,
+                holds_after nat is_nat base_at before e cells next outcome.carries i k f other
+                    (ranged_by nat base_at i f (ranges i k (first_of f) began)) (flying.holds i k f was),
+              )

@@ -32,10 +32,12 @@ ended_in_range : {F A : Type 0} (s : Setting F A) (i : ℕ) (es : List Entry) (l
     → AllEnded s i es (batched limit first number size keys (range_with_len a n)) → HasEnded (stand_of s.scene i k es)
 ended_in_range s i es limit first number size keys a zero k low high all = absurd (omega arith)
 ended_in_range s i es limit first number size keys a (suc n) k low high all =
-    go (λ number size keys less rest. ended_in_range s i es limit first number size keys (a + 1) n k less (omega arith) rest) (nat_lt size limit && not (is_among (first a) keys)) all
+    go (λ number size keys less rest. ended_in_range s i es limit first number size keys
+    (a + 1) n k less (omega arith) rest) (nat_lt size limit && not (is_among (first a) keys)) all
   where
     Again : Type 0
-    Again = (number size : ℕ) (keys : List ℕ) → a + 1 ≤ k → AllEnded s i es (batched limit first number size keys (range_with_len (a + 1) n)) → HasEnded (stand_of s.scene i k es)
+    Again = (number size : ℕ) (keys : List ℕ) → a + 1 ≤ k → AllEnded s i es
+        (batched limit first number size keys (range_with_len (a + 1) n)) → HasEnded (stand_of s.scene i k es)
 
     one : Again → (number size : ℕ) (keys : List ℕ) → HasEnded (stand_of s.scene i a es)
         → AllEnded s i es (batched limit first number size keys (range_with_len (a + 1) n))
@@ -44,17 +46,22 @@ ended_in_range s i es limit first number size keys a (suc n) k low high all =
       where
         by : (b : Bool) → nat_lt a k ≡ b → HasEnded (stand_of s.scene i k es)
         by true w = let less : a < k = ltb-true a k w in again number size keys (omega arith) rest
-        by false w = let more : k ≤ a = ltb-false a k w in let same : a ≡ k = omega arith in subst (λ m. HasEnded (stand_of s.scene i m es)) same here
+        by false w = let more : k ≤ a = ltb-false a k w in
+            let same : a ≡ k = omega arith in
+            subst (λ m. HasEnded (stand_of s.scene i m es)) same here
 
     go : Again → (b : Bool)
-        → AllEnded s i es (cond b (record { item = a; batch = number } ∷ batched limit first number (size + 1) (with_key (first a) keys) (range_with_len (a + 1) n)) (record { item = a; batch = number + 1 } ∷ batched limit first (number + 1) 1 (with_key (first a) []) (range_with_len (a + 1) n)))
+        → AllEnded s i es (cond b (record { item = a; batch = number } ∷ batched limit first number
+        (size + 1) (with_key (first a) keys) (range_with_len (a + 1) n)) (record { item = a; batch = number + 1 }
+        ∷ batched limit first (number + 1) 1 (with_key (first a) []) (range_with_len (a + 1) n)))
         → HasEnded (stand_of s.scene i k es)
     go again true h = one again number (size + 1) (with_key (first a) keys) h.0 h.1
     go again false h = one again (number + 1) 1 (with_key (first a) []) h.0 h.1
 
 -- what a sweep is offered
 offers_of-sweep : {F A : Type 0} (s : Setting F A) (i at : ℕ) (actor : Actor) → actor.lane ≡ None
-    → offers_of s i at actor ≡ batched 1 (λ item. first_key_of (s.scene.machine i) (s.scene.begins i item)) 0 0 [] (range_with_len 0 s.sweep_items)
+    → offers_of s i at actor ≡ batched 1
+    (λ item. first_key_of (s.scene.machine i) (s.scene.begins i item)) 0 0 [] (range_with_len 0 s.sweep_items)
 offers_of-sweep s i at actor h = ap (λ on. offers_of s i at (record { lane = on; quota = actor.quota; stop = actor.stop })) h
 
 -- entries of other incarnations are none of an item's own
@@ -69,11 +76,13 @@ none_of i k (e ∷ es) h = go (e.incarnation == i) refl (none_of i k es h.1)
 
 -- In a list that is in order of epochs, those up to one are a front.
 pub through : (era : ℕ → ℕ) (number : ℕ) (es : List Entry)
-    → ((before middle later : List Entry) (e f : Entry) → es ≡ before ++ e ∷ (middle ++ f ∷ later) → era e.incarnation ≤ era f.incarnation)
+    → ((before middle later : List Entry) (e f : Entry)
+    → es ≡ before ++ e ∷ (middle ++ f ∷ later) → era e.incarnation ≤ era f.incarnation)
     → (t : ℕ) × IsThrough era number es t
 through era number [] order = (0, record { size = omega arith; front = tt; back = tt })
 through era number (e ∷ es) order =
-    go (nat_lt number (era e.incarnation)) refl (through era number es (λ before middle later f g split. order (e ∷ before) middle later f g (ap (λ l. e ∷ l) split)))
+    go (nat_lt number (era e.incarnation)) refl (through era number es
+    (λ before middle later f g split. order (e ∷ before) middle later f g (ap (λ l. e ∷ l) split)))
   where
     go : (b : Bool) → nat_lt number (era e.incarnation) ≡ b → (t : ℕ) × IsThrough era number es t
         → (t : ℕ) × IsThrough era number (e ∷ es) t
@@ -111,12 +120,16 @@ below_next (own ∷ eras) zero j era there low high = go (nat_lt j (length own.a
 
     go : (b : Bool) → nat_lt j (length own.actors) ≡ b → cond b 0 (era_of eras (j - length own.actors) + 1) ≤ 0
         → j < 0 + length era.actors
-    go true w h = let less : j < length own.actors = ltb-true j (length own.actors) w in let size : length own.actors ≡ length era.actors = ap (λ (x : Era). length x.actors) same in omega arith
+    go true w h = let less : j < length own.actors = ltb-true j (length own.actors) w in
+        let size : length own.actors ≡ length era.actors = ap (λ (x : Era). length x.actors) same in
+        omega arith
     go false w h = absurd (omega arith)
-below_next (own ∷ eras) (suc number) j era there low high = go (λ a b. below_next eras number (j - length own.actors) era there a b) (nat_lt j (length own.actors)) refl high
+below_next (own ∷ eras) (suc number) j era there low high =
+    go (λ a b. below_next eras number (j - length own.actors) era there a b) (nat_lt j (length own.actors)) refl high
   where
     Again : Type 0
-    Again = base_of eras number ≤ j - length own.actors → era_of eras (j - length own.actors) ≤ number → j - length own.actors < base_of eras number + length era.actors
+    Again = base_of eras number ≤ j - length own.actors
+        → era_of eras (j - length own.actors) ≤ number → j - length own.actors < base_of eras number + length era.actors
 
     go : Again → (b : Bool) → nat_lt j (length own.actors) ≡ b
         → cond b 0 (era_of eras (j - length own.actors) + 1) ≤ suc number
@@ -134,7 +147,8 @@ pub ended_as : {F G : Type 0} (into : F → G) (m : Machine F) (n : Machine G) �
     (es : List Entry) → HasEnded (stand_after n (stand_as into st) es) → HasEnded (stand_after m st es)
 ended_as into m n image (Flies f) [] h = h
 ended_as into m n image (Ends o) [] h = h
-ended_as into m n image (Flies f) (e ∷ es) h = ended_as into m n image (m.goes f e.reply) es (subst (λ st. HasEnded (stand_after n st es)) (image.goes f e.reply) h)
+ended_as into m n image (Flies f) (e ∷ es) h = ended_as into m n image
+    (m.goes f e.reply) es (subst (λ st. HasEnded (stand_after n st es)) (image.goes f e.reply) h)
 ended_as into m n image (Ends o) (e ∷ es) h = ended_as into m n image (Ends o) es h
 
 -- A run of a setting whose scene has the NAT's as a case is a list of the NAT's paths.
@@ -147,13 +161,15 @@ nat_list_of_image s into nat begins es image firsts ranges run = record {
   legal = run.legal;
   paths = λ i k.
       path_as into (nat_machine nat) (s.scene.machine i) (image.machine i) (begins i k) (own_of i k es)
-      (subst (λ st. IsPath (s.scene.machine i) st (own_of i k es)) (image.begins i k) (subst (IsPath (s.scene.machine i) (s.scene.begins i k)) (own_in_part i k es) (run.paths i k)));
+      (subst (λ st. IsPath (s.scene.machine i) st (own_of i k es)) (image.begins i k)
+      (subst (IsPath (s.scene.machine i) (s.scene.begins i k)) (own_in_part i k es) (run.paths i k)));
   firsts = firsts;
   ranges = ranges;
   bases = base_of-below s.eras;
   epochs = λ before later e split.
       each-splits (λ f. own_base s.eras f.incarnation ≤ own_base s.eras e.incarnation) before (λ xs ys f h.
-      base_of-rises s.eras (era_of s.eras f.incarnation) (era_of s.eras e.incarnation) (run.by_epoch xs ys later f e (whole before later e xs ys f split h)));
+      base_of-rises s.eras (era_of s.eras f.incarnation)
+      (era_of s.eras e.incarnation) (run.by_epoch xs ys later f e (whole before later e xs ys f split h)));
   rising = rises_in_order s.shards es run.in_order run.in_shards;
 }
   where
@@ -175,7 +191,11 @@ own_image s = record {
   removals = λ e. refl;
 }
 
-module _ {G : Type 0} (s : Setting G NatArrival) (into : NatFlight → G) (nat : Nat) (is_nat : IsNat nat) (begins : ℕ → ℕ → Stand NatFlight) (es : List Entry) (image : IsSceneImage into (nat_scene nat begins) s.scene) (firsts : (i k : ℕ) (flight : NatFlight) → begins i k ≡ Flies flight → first_of flight ≡ flight) (ranges : (i k : ℕ) (flight : NatFlight) → begins i k ≡ Flies flight → IsRanged nat (own_base s.eras) i flight) (run : IsRun s es) where
+module _ {G : Type 0} (s : Setting G NatArrival) (into : NatFlight → G) (nat : Nat) (is_nat : IsNat nat)
+    (begins : ℕ → ℕ → Stand NatFlight) (es : List Entry) (image : IsSceneImage into (nat_scene nat begins) s.scene)
+    (firsts : (i k : ℕ) (flight : NatFlight) → begins i k ≡ Flies flight → first_of flight ≡ flight)
+    (ranges : (i k : ℕ) (flight : NatFlight) → begins i k ≡ Flies flight → IsRanged nat (own_base s.eras) i flight)
+    (run : IsRun s es) where
   given : IsNatList nat (own_base s.eras) begins es
   given = nat_list_of_image s into nat begins es image firsts ranges run
 
@@ -184,7 +204,10 @@ module _ {G : Type 0} (s : Setting G NatArrival) (into : NatFlight → G) (nat :
   run_through number = through (era_of s.eras) number es run.by_epoch
 
   -- A sweep that isn't stopped.
-  module _ (i : ℕ) (post : Post) (posted : slice_get (posts_of s es) i ≡ Some post) (is_sweep : post.actor.lane ≡ None) (finished : is_stopped post.actor (part_of i es) ≡ false) (covers : IsSweepOf nat begins s.sweep_items i (own_base s.eras i)) (t : ℕ) (is_through : IsThrough (era_of s.eras) (era_of s.eras i) es t) where
+  module _ (i : ℕ) (post : Post) (posted : slice_get (posts_of s es) i ≡ Some post)
+      (is_sweep : post.actor.lane ≡ None) (finished : is_stopped post.actor (part_of i es) ≡ false)
+      (covers : IsSweepOf nat begins s.sweep_items i (own_base s.eras i))
+      (t : ℕ) (is_through : IsThrough (era_of s.eras) (era_of s.eras i) es t) where
     all_ended : AllEnded s i es (offers_at s i post)
     all_ended = elim (run.done i post posted) [
       | inl stopped ↦ absurd (cc)
@@ -194,12 +217,16 @@ module _ {G : Type 0} (s : Setting G NatArrival) (into : NatFlight → G) (nat :
     ended_whole : (k : ℕ) → k < s.sweep_items → HasEnded (stand_of (nat_scene nat begins) i k es)
     ended_whole k less =
         let there : HasEnded (stand_of s.scene i k es) =
-        ended_in_range s i es 1 (λ item. first_key_of (s.scene.machine i) (s.scene.begins i item)) 0 0 [] 0 s.sweep_items k (omega arith) (omega arith)
+        ended_in_range s i es 1 (λ item. first_key_of (s.scene.machine i) (s.scene.begins i item))
+        0 0 [] 0 s.sweep_items k (omega arith) (omega arith)
         (subst (AllEnded s i es) (offers_of-sweep s i post.at post.actor is_sweep) all_ended) in
-        ended_as into (nat_machine nat) (s.scene.machine i) (image.machine i) (begins i k) (own_of i k es) (subst (λ st. HasEnded (stand_after (s.scene.machine i) st (own_of i k es))) (image.begins i k) there)
+        ended_as into (nat_machine nat) (s.scene.machine i) (image.machine i) (begins i k) (own_of i k es)
+        (subst (λ st. HasEnded (stand_after (s.scene.machine i) st (own_of i k es))) (image.begins i k) there)
 
     no_later : AllByRecursion (λ f. f.incarnation ≡ i → ⊥) (drop t es)
-    no_later = each-weaker (λ f. era_of s.eras i < era_of s.eras f.incarnation) (λ f. f.incarnation ≡ i → ⊥) (λ f more same. let e : era_of s.eras f.incarnation ≡ era_of s.eras i = ap (era_of s.eras) same in omega arith) (drop t es) is_through.back
+    no_later = each-weaker (λ f. era_of s.eras i < era_of s.eras f.incarnation) (λ f. f.incarnation ≡ i → ⊥)
+        (λ f more same. let e : era_of s.eras f.incarnation ≡ era_of s.eras i = ap (era_of s.eras) same in omega arith)
+        (drop t es) is_through.back
 
     stands : (k : ℕ) → stand_of (nat_scene nat begins) i k es ≡ stand_of (nat_scene nat begins) i k (take t es)
     stands k =

@@ -25,7 +25,8 @@ use Rattle.slnf_nat.proofs.Flying.{BeganSo, began_so, ranged_by}
 use Rattle.slnf_nat.proofs.Boxing.{decides}
 
 -- The flight that makes the entry e behind these.
-pub record IsNextOf (nat : Nat) (base_at : ℕ → ℕ) (begins : ℕ → ℕ → Stand NatFlight) (before : List Entry) (e : Entry) (flight : NatFlight) : Type 0 where
+pub record IsNextOf (nat : Nat) (base_at : ℕ → ℕ) (begins : ℕ → ℕ → Stand NatFlight)
+    (before : List Entry) (e : Entry) (flight : NatFlight) : Type 0 where
   pub began : begins e.incarnation e.item ≡ Flies (first_of flight)
   pub stands : stand_of (nat_scene nat begins) e.incarnation e.item before ≡ Flies flight
   pub asked : e.request ≡ nat_asks nat flight
@@ -43,16 +44,19 @@ began_all : (nat : Nat) (first : NatFlight) (st : Stand NatFlight) (es : List En
 began_all nat first st [] h = h
 began_all nat first (Ends end) (e ∷ es) h = began_all nat first (Ends end) es h
 began_all nat first (Flies flight) (e ∷ es) h =
-    began_all nat first (nat_goes nat flight e.reply) es (subst (λ f. BeganSo f (nat_goes nat flight e.reply)) h (began_so nat flight e.reply))
+    began_all nat first (nat_goes nat flight e.reply) es
+    (subst (λ f. BeganSo f (nat_goes nat flight e.reply)) h (began_so nat flight e.reply))
 
-module _ (nat : Nat) (is_nat : IsNat nat) (base_at : ℕ → ℕ) (begins : ℕ → ℕ → Stand NatFlight) (es : List Entry) (given : IsNatList nat base_at begins es) where
+module _ (nat : Nat) (is_nat : IsNat nat) (base_at : ℕ → ℕ) (begins : ℕ → ℕ → Stand NatFlight)
+    (es : List Entry) (given : IsNatList nat base_at begins es) where
   -- an item's entries where the list is split at one of them
   own_split : (before later : List Entry) (e : Entry) → es ≡ before ++ e ∷ later
       → own_of e.incarnation e.item es ≡ own_of e.incarnation e.item before ++ e ∷ own_of e.incarnation e.item later
   own_split before later e split =
       ap (own_of e.incarnation e.item) split
       ∙ filter-append (is_of e.incarnation e.item) before (e ∷ later)
-      ∙ ap (λ b. own_of e.incarnation e.item before ++ cond b (e ∷ own_of e.incarnation e.item later) (own_of e.incarnation e.item later)) (is_of-itself e)
+      ∙ ap (λ b. own_of e.incarnation e.item before
+      ++ cond b (e ∷ own_of e.incarnation e.item later) (own_of e.incarnation e.item later)) (is_of-itself e)
 
   pub next_of : (before later : List Entry) (e : Entry) → es ≡ before ++ e ∷ later
       → (flight : NatFlight) × IsNextOf nat base_at begins before e flight
@@ -65,7 +69,9 @@ module _ (nat : Nat) (is_nat : IsNat nat) (base_at : ℕ → ℕ) (begins : ℕ 
       k = e.item
 
       asked : IsAsked (nat_machine nat) (stand_of (nat_scene nat begins) e.incarnation e.item before) e
-      asked = (path-back (nat_machine nat) (begins e.incarnation e.item) (own_of e.incarnation e.item before) (e ∷ own_of e.incarnation e.item later) (subst (IsPath (nat_machine nat) (begins e.incarnation e.item)) (own_split before later e split) (given.paths e.incarnation e.item))).0
+      asked = (path-back (nat_machine nat) (begins e.incarnation e.item) (own_of e.incarnation e.item before)
+          (e ∷ own_of e.incarnation e.item later) (subst (IsPath (nat_machine nat) (begins e.incarnation e.item))
+          (own_split before later e split) (given.paths e.incarnation e.item))).0
 
       replied : e.reply ≡ reply_to e.request e.stamp (map_after empty before (key_of e.request))
       replied = (legal-back empty before (e ∷ later) (subst IsLegal split given.legal)).0
@@ -75,12 +81,16 @@ module _ (nat : Nat) (is_nat : IsNat nat) (base_at : ℕ → ℕ) (begins : ℕ 
           → (flight : NatFlight) × IsNextOf nat base_at begins before e flight
       go first b (Ends end) w asked = absurd asked
       go (Ends end) b (Flies flight) w asked =
-          let ended : stand_of (nat_scene nat begins) e.incarnation e.item before ≡ Ends end = ap (λ st. stand_after (nat_machine nat) st (own_of e.incarnation e.item before)) b ∙ ended_stays nat end (own_of e.incarnation e.item before) in
+          let ended : stand_of (nat_scene nat begins) e.incarnation e.item before ≡ Ends end =
+          ap (λ st. stand_after (nat_machine nat) st (own_of e.incarnation e.item before)) b
+          ∙ ended_stays nat end (own_of e.incarnation e.item before) in
           absurd (cc)
       go (Flies first) b (Flies flight) w asked =
           let is_first : first_of first ≡ first = given.firsts e.incarnation e.item first b in
-          let all : BeganSo first (stand_after (nat_machine nat) (Flies first) (own_of e.incarnation e.item before)) = began_all nat first (Flies first) (own_of e.incarnation e.item before) is_first in
-          let here : stand_after (nat_machine nat) (Flies first) (own_of e.incarnation e.item before) ≡ Flies flight = ap (λ st. stand_after (nat_machine nat) st (own_of e.incarnation e.item before)) (sym b) ∙ w in
+          let all : BeganSo first (stand_after (nat_machine nat) (Flies first) (own_of e.incarnation e.item before)) =
+          began_all nat first (Flies first) (own_of e.incarnation e.item before) is_first in
+          let here : stand_after (nat_machine nat) (Flies first) (own_of e.incarnation e.item before) ≡ Flies flight =
+          ap (λ st. stand_after (nat_machine nat) st (own_of e.incarnation e.item before)) (sym b) ∙ w in
           let same : first_of flight ≡ first = subst (BeganSo first) here all in
           let began : begins e.incarnation e.item ≡ Flies (first_of flight) = b ∙ ap (λ f. Flies f) (sym same) in (
             flight,
@@ -113,7 +123,8 @@ module _ (nat : Nat) (is_nat : IsNat nat) (base_at : ℕ → ℕ) (begins : ℕ 
       → decision_at (nat_scene nat begins) es (length before) ≡ decision_of (Flies (first_of flight))
       (decides nat flight e.reply)
   decided_here before later e flight split next =
-      let at : slice_get es (length before) ≡ Some e = ap (λ xs. slice_get xs (length before)) split ∙ slice_get-split before later e in
+      let at : slice_get es (length before) ≡ Some e =
+      ap (λ xs. slice_get xs (length before)) split ∙ slice_get-split before later e in
       let front : take (length before) es ≡ before = ap (take (length before)) split ∙ take-append_seam before (e ∷ later) in
       rw (at, front, next.stands, next.began) refl
 
@@ -134,7 +145,8 @@ module _ (nat : Nat) (is_nat : IsNat nat) (base_at : ℕ → ℕ) (begins : ℕ 
       go : (b : Bool) → (port_key packet.proto (tried nat packet number) == flow_key proto inside) ≡ b
           → cond b (cell_after (nat_asks nat (Out (Release number version port) j packet)) stamp (Some held))
           (Some held) ≡ Some held
-      go true w = absurd (flow_port proto packet.proto inside (tried nat packet number) fits (is_nat.candidate_fits packet.proto packet.source number) (sym (eqb-true _ _ w)))
+      go true w = absurd (flow_port proto packet.proto inside (tried nat packet number) fits
+          (is_nat.candidate_fits packet.proto packet.source number) (sym (eqb-true _ _ w)))
       go false w = refl
   leaves proto inside held stamp i (Out Last j packet) fits ranged = both _ (Some held)
   leaves proto inside held stamp i (In LookPort packet) fits ranged = both _ (Some held)

@@ -96,7 +96,8 @@ ended_so nat (Flies (In state packet)) h = cc
 ended_so nat (Flies (Sweep state proto port base)) h = cc
 ended_so nat (Ends end) h = ap (λ o. Ends o) h
 
-module _ (nat : Nat) (is_nat : IsNat nat) (base_at : ℕ → ℕ) (begins : ℕ → ℕ → Stand NatFlight) (es : List Entry) (given : IsNatList nat base_at begins es) where
+module _ (nat : Nat) (is_nat : IsNat nat) (base_at : ℕ → ℕ) (begins : ℕ → ℕ → Stand NatFlight)
+    (es : List Entry) (given : IsNatList nat base_at begins es) where
   -- A packet has no port only where it is starved.
   pub no_port : NoPortStarves nat begins es
   no_port d f x at decided none = go x.first refl
@@ -115,27 +116,45 @@ module _ (nat : Nat) (is_nat : IsNat nat) (base_at : ℕ → ℕ) (begins : ℕ 
 
       stands : stand_of (nat_scene nat begins) f.incarnation f.item (take (suc d) es) ≡ Ends (Some (Dropped NoPort))
       stands =
-          ended_so nat _ (ap (λ l. decided_at (nat_machine nat) (stand_of (nat_scene nat begins) f.incarnation f.item l)) front ∙ ap (decided_at (nat_machine nat)) (stand_of-own (nat_scene nat begins) (take d es) f) ∙ whole.after ∙ ap (λ v. Some v) none)
+          ended_so nat _
+          (ap (λ l. decided_at (nat_machine nat) (stand_of (nat_scene nat begins) f.incarnation f.item l)) front
+          ∙ ap (decided_at (nat_machine nat)) (stand_of-own (nat_scene nat begins) (take d es) f)
+          ∙ whole.after ∙ ap (λ v. Some v) none)
 
       after : (first : NatFlight) → x.first ≡ first → stand_after (nat_machine nat) (Flies first)
           (own_of f.incarnation f.item (take (suc d) es)) ≡ Ends (Some (Dropped NoPort))
-      after first is = ap (λ st. stand_after (nat_machine nat) st (own_of f.incarnation f.item (take (suc d) es))) (ap (λ q. Flies q) (sym is) ∙ sym whole.begins) ∙ stands
+      after first is = ap (λ st. stand_after (nat_machine nat) st (own_of f.incarnation f.item (take (suc d) es)))
+          (ap (λ q. Flies q) (sym is) ∙ sym whole.begins) ∙ stands
 
       path : (first : NatFlight) → x.first ≡ first → IsPath (nat_machine nat) (Flies first)
           (own_of f.incarnation f.item (take (suc d) es))
       path first is =
-          subst (λ st. IsPath (nat_machine nat) st (own_of f.incarnation f.item (take (suc d) es))) (whole.begins ∙ ap (λ q. Flies q) is)
-          (path-front (nat_machine nat) (begins f.incarnation f.item) (own_of f.incarnation f.item (take (suc d) es)) (own_of f.incarnation f.item (drop (suc d) es))
-          (subst (IsPath (nat_machine nat) (begins f.incarnation f.item)) (ap (own_of f.incarnation f.item) (sym (take-append-drop (suc d) es)) ∙ filter-append (is_of f.incarnation f.item) (take (suc d) es) (drop (suc d) es)) (given.paths f.incarnation f.item)))
+          subst (λ st. IsPath (nat_machine nat) st (own_of f.incarnation f.item (take (suc d) es)))
+          (whole.begins ∙ ap (λ q. Flies q) is)
+          (path-front (nat_machine nat) (begins f.incarnation f.item)
+          (own_of f.incarnation f.item (take (suc d) es)) (own_of f.incarnation f.item (drop (suc d) es))
+          (subst (IsPath (nat_machine nat) (begins f.incarnation f.item))
+          (ap (own_of f.incarnation f.item) (sym (take-append-drop (suc d) es)) ∙ filter-append
+          (is_of f.incarnation f.item) (take (suc d) es) (drop (suc d) es)) (given.paths f.incarnation f.item)))
 
       no_end : (st : Stand NatFlight) → HasPort st → st ≡ Ends (Some (Dropped NoPort)) → ⊥
       no_end st h is = (subst HasPort is h) refl
 
       go : (first : NatFlight) → x.first ≡ first
-          → (i : ℕ) × (packet : Packet) × (x.first ≡ Out Look i packet) × IsStarved nat i packet (own_of f.incarnation f.item (take (suc d) es))
+          → (i : ℕ) × (packet : Packet) × (x.first ≡ Out Look i packet)
+          × IsStarved nat i packet (own_of f.incarnation f.item (take (suc d) es))
       go (Out state i packet) is =
-          let began : first_of (Out state i packet) ≡ Out state i packet = given.firsts f.incarnation f.item (Out state i packet) (whole.begins ∙ ap (λ q. Flies q) is) in
-          let first : x.first ≡ Out Look i packet = is ∙ sym began in
-          (i, packet, first, starved nat is_nat i packet (own_of f.incarnation f.item (take (suc d) es)) (path (Out Look i packet) first) (after (Out Look i packet) first))
-      go (In state packet) is = absurd (no_end _ (has_port nat (Flies (In state packet)) (own_of f.incarnation f.item (take (suc d) es)) tt) (after (In state packet) is))
-      go (Sweep state proto port base) is = absurd (no_end _ (has_port nat (Flies (Sweep state proto port base)) (own_of f.incarnation f.item (take (suc d) es)) tt) (after (Sweep state proto port base) is))
+          let began : first_of (Out state i packet) ≡ Out state i packet =
+          given.firsts f.incarnation f.item (Out state i packet) (whole.begins ∙ ap (λ q. Flies q) is) in
+          let first : x.first ≡ Out Look i packet = is ∙ sym began in (
+            i,
+            packet,
+            first,
+            starved nat is_nat i packet (own_of f.incarnation f.item (take (suc d) es))
+                (path (Out Look i packet) first) (after (Out Look i packet) first),
+          )
+      go (In state packet) is =
+          absurd (no_end _ (has_port nat (Flies (In state packet)) (own_of f.incarnation f.item (take (suc d) es)) tt)
+          (after (In state packet) is))
+      go (Sweep state proto port base) is = absurd (no_end _ (has_port nat (Flies (Sweep state proto port base))
+          (own_of f.incarnation f.item (take (suc d) es)) tt) (after (Sweep state proto port base) is))

@@ -153,7 +153,8 @@ pub item_sweeps : (P : Stand NatFlight → Type 0) (pool : Pool) (base item : �
 item_sweeps P pool base item there none = go (nat_lt item (port_count pool)) (nat_lt item (2 * port_count pool))
   where
     go : (b d : Bool)
-        → P (cond b (Flies (Sweep SweepPort Tcp (pool_port pool item) base)) (cond d (Flies (Sweep SweepPort Udp (pool_port pool (item - port_count pool)) base)) (Ends None)))
+        → P (cond b (Flies (Sweep SweepPort Tcp (pool_port pool item) base))
+        (cond d (Flies (Sweep SweepPort Udp (pool_port pool (item - port_count pool)) base)) (Ends None)))
     go true d = there Tcp item
     go false true = there Udp (item - port_count pool)
     go false false = none
@@ -165,7 +166,8 @@ pub starts_as : (P : NatFlight → Type 0) (pool : Pool) (i k : ℕ) (packet : P
 starts_as P pool i k packet first h out in_ = go (is_outbound pool packet) (is_inbound pool packet) refl refl h
   where
     go : (b d : Bool) → is_outbound pool packet ≡ b → is_inbound pool packet ≡ d
-        → (let s : Start NatFlight = cond b (StartGo (Out Look i packet)) (cond d (StartGo (In LookPort packet)) (StartOver Neither)) in s) ≡ StartGo first
+        → (let s : Start NatFlight = cond b (StartGo (Out Look i packet))
+        (cond d (StartGo (In LookPort packet)) (StartOver Neither)) in s) ≡ StartGo first
         → P first
     go true d w v h = let is : Out Look i packet ≡ first = cc in subst P is (out w)
     go false true w v h = let is : In LookPort packet ≡ first = cc in subst P is (in_ w v)

@@ -40,7 +40,8 @@ nat_placed nat begins es d x decided = go (is_in x.first && is_no_flow x.verdict
     go : (b : Bool) → (p : Entry) × (slice_get es (cond b (first_with es d (slice_get es d)) d) ≡ Some p)
     go true =
         let r = is_decision (nat_scene nat begins) es d x decided in
-        let there : (p : Entry) × (slice_get es (first_own r.0.incarnation r.0.item es) ≡ Some p) = first_there r.0.incarnation r.0.item es d r.0 r.1.at (is_of-itself r.0) in
+        let there : (p : Entry) × (slice_get es (first_own r.0.incarnation r.0.item es) ≡ Some p) =
+        first_there r.0.incarnation r.0.item es d r.0 r.1.at (is_of-itself r.0) in
         (there.0, ap (λ o. slice_get es (first_with es d o)) r.1.at ∙ there.1)
     go false = let r = is_decision (nat_scene nat begins) es d x decided in (r.0, r.1.at)
 
@@ -48,7 +49,13 @@ nat_placed nat begins es d x decided = go (is_in x.first && is_no_flow x.verdict
 pub nat_verdicts : (nat : Nat) (is_nat : IsNat nat) (base_at : ℕ → ℕ) (begins : ℕ → ℕ → Stand NatFlight)
     (es : List Entry) → IsNatList nat base_at begins es → (d : ℕ) (x : Decision NatFlight)
     → decision_at (nat_scene nat begins) es d ≡ Some x
-    → (p : Entry) × (slice_get es (nat_place es d x.first x.verdict) ≡ Some p) × (nat_verdict nat (content_after (nat_scene nat begins) (nat_box nat) es (nat_place es d x.first x.verdict)) (nat_arrival x.first p) ≡ x.verdict)
+    → (p : Entry) × (slice_get es (nat_place es d x.first x.verdict) ≡ Some p)
+    × (nat_verdict nat (content_after (nat_scene nat begins) (nat_box nat) es (nat_place es d x.first x.verdict))
+    (nat_arrival x.first p) ≡ x.verdict)
 nat_verdicts nat is_nat base_at begins es given d x decided =
-    let r = nat_placed nat begins es d x decided in
-    (r.0, r.1, box_verdict (nat_scene nat begins) (nat_box nat) IsSameFlows es d x r.0 (λ i. nat_steady nat) (nat_own_places nat begins es) (nat_explained nat is_nat base_at begins es given) decided r.1)
+    let r = nat_placed nat begins es d x decided in (
+      r.0,
+      r.1,
+      box_verdict (nat_scene nat begins) (nat_box nat) IsSameFlows es d x r.0 (λ i. nat_steady nat)
+          (nat_own_places nat begins es) (nat_explained nat is_nat base_at begins es given) decided r.1,
+    )

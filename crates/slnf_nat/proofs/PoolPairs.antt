@@ -21,7 +21,8 @@ pub port_has : (pool : Pool) (n : ℕ) → n < port_count pool
     → has_pair pool (record { addr = pool.outside; port = pool.low + n }) ≡ true
 port_has pool n h =
     let r : (pool.low ≤ pool.low + n) × (pool.low + n ≤ pool.high) = port_within pool n h in
-    and_from _ _ (eq-eqb pool.outside pool.outside refl) (and_from _ _ (le-leb pool.low (pool.low + n) r.0) (le-leb (pool.low + n) pool.high r.1))
+    and_from _ _ (eq-eqb pool.outside pool.outside refl)
+    (and_from _ _ (le-leb pool.low (pool.low + n) r.0) (le-leb (pool.low + n) pool.high r.1))
 
 pub port_fits : (pool : Pool) → pool.outside < 2 ^ 32 → pool.high < 2 ^ 16 → (n : ℕ) → n < port_count pool
     → IsPair (let pair : Pair = record { addr = pool.outside; port = pool.low + n } in pair)
@@ -37,9 +38,14 @@ place_below pool x = mod_below x (port_count pool) (let some : 0 < pool.high - p
 pub pool_covers : (pool : Pool) (inside port : Pair) → has_pair pool port ≡ true
     → (place : ℕ) × (place < port_count pool) × (candidate pool inside place ≡ port)
 pool_covers pool inside port has =
-    let a : ((port.addr == pool.outside) ≡ true) × ((nat_le pool.low port.port && nat_le port.port pool.high) ≡ true) = and_parts (port.addr == pool.outside) (nat_le pool.low port.port && nat_le port.port pool.high) has in
-    let b : (nat_le pool.low port.port ≡ true) × (nat_le port.port pool.high ≡ true) = and_parts (nat_le pool.low port.port) (nat_le port.port pool.high) a.1 in
-    let r : (place : ℕ) × (place < port_count pool) × (pool.low + ((inside.addr + inside.port) % port_count pool + place) % port_count pool ≡ port.port) = port_at pool.low pool.high (inside.addr + inside.port) port.port (leb-true pool.low port.port b.0) (leb-true port.port pool.high b.1) in
+    let a : ((port.addr == pool.outside) ≡ true) × ((nat_le pool.low port.port && nat_le port.port pool.high) ≡ true) =
+    and_parts (port.addr == pool.outside) (nat_le pool.low port.port && nat_le port.port pool.high) has in
+    let b : (nat_le pool.low port.port ≡ true) × (nat_le port.port pool.high ≡ true) =
+    and_parts (nat_le pool.low port.port) (nat_le port.port pool.high) a.1 in
+    let r : (place : ℕ) × (place < port_count pool)
+    × (pool.low + ((inside.addr + inside.port) % port_count pool + place) % port_count pool ≡ port.port) =
+    port_at pool.low pool.high (inside.addr + inside.port) port.port
+    (leb-true pool.low port.port b.0) (leb-true port.port pool.high b.1) in
     (r.0, r.1, pair_made _ _ port (sym (eqb-true port.addr pool.outside a.0)) r.2)
 
 pub pool_is_nat : (pool : Pool) → IsPool pool → IsNat (nat_of pool)

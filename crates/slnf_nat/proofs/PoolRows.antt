@@ -40,13 +40,37 @@ outside = 3405803777
 
 -- the pool with the ports 40000 to 40003, and those with fewer
 abbrev four : Pool
-four = record { inside = ten; outside = outside; low = 40000; high = 40003; in_order = omega arith; registered = omega arith; apart = refl }
+four = record {
+  inside = ten;
+  outside = outside;
+  low = 40000;
+  high = 40003;
+  in_order = omega arith;
+  registered = omega arith;
+  apart = refl;
+}
 
 abbrev two : Pool
-two = record { inside = ten; outside = outside; low = 40000; high = 40001; in_order = omega arith; registered = omega arith; apart = refl }
+two = record {
+  inside = ten;
+  outside = outside;
+  low = 40000;
+  high = 40001;
+  in_order = omega arith;
+  registered = omega arith;
+  apart = refl;
+}
 
 abbrev one : Pool
-one = record { inside = ten; outside = outside; low = 40000; high = 40000; in_order = omega arith; registered = omega arith; apart = refl }
+one = record {
+  inside = ten;
+  outside = outside;
+  low = 40000;
+  high = 40000;
+  in_order = omega arith;
+  registered = omega arith;
+  apart = refl;
+}
 
 abbrev port : ℕ → Pair
 port number = record { addr = outside; port = number }
@@ -107,22 +131,26 @@ back =
     ∷ []
 
 back_legal : IsLegal back
-unfolding flow_key_number port_key_number single_number key_number pair_number flow_to_number claim_number claim_of pair_at pair_of flow_to_of
+unfolding flow_key_number port_key_number single_number
+    key_number pair_number flow_to_number claim_number claim_of pair_at pair_of flow_to_of
 back_legal = (refl, (refl, (refl, (refl, (refl, tt)))))
 
 back_paths : IsPath (nat_machine (nat_of four)) (back_begins 0 0) (own_of 0 0 back)
     × IsPath (nat_machine (nat_of four)) (back_begins 1 0) (own_of 1 0 back)
-unfolding flow_key_number port_key_number single_number key_number pair_number flow_to_number claim_number claim_of pair_at pair_of flow_to_of
+unfolding flow_key_number port_key_number single_number
+    key_number pair_number flow_to_number claim_number claim_of pair_at pair_of flow_to_of
 back_paths = ((refl, (refl, (refl, tt))), (refl, (refl, tt)))
 
 back_ends : (stand_of (nat_scene (nat_of four) back_begins) 0 0 back ≡ Ends (Some (Emit (Source (port 40001)))))
     × (stand_of (nat_scene (nat_of four) back_begins) 1 0 back ≡ Ends (Some (Emit (Dest five))))
-unfolding flow_key_number port_key_number single_number key_number pair_number flow_to_number claim_number claim_of pair_at pair_of flow_to_of
+unfolding flow_key_number port_key_number single_number
+    key_number pair_number flow_to_number claim_number claim_of pair_at pair_of flow_to_of
 back_ends = (refl, refl)
 
 back_content : content_after (nat_scene (nat_of four) back_begins) (nat_box (nat_of four)) back 5
     ≡ record { proto = Tcp; inside = five; outside = port 40001 } ∷ []
-unfolding flow_key_number port_key_number single_number key_number pair_number flow_to_number claim_number claim_of pair_at pair_of flow_to_of
+unfolding flow_key_number port_key_number single_number
+    key_number pair_number flow_to_number claim_number claim_of pair_at pair_of flow_to_of
 back_content = refl
 
 -- ---- two packets of one flow at once: the loser releases its claim, and is decided where it finds the record
@@ -143,21 +171,26 @@ race =
     ∷ []
 
 race_legal : IsLegal race
-unfolding flow_key_number port_key_number single_number key_number pair_number flow_to_number claim_number claim_of pair_at pair_of flow_to_of
+unfolding flow_key_number port_key_number single_number
+    key_number pair_number flow_to_number claim_number claim_of pair_at pair_of flow_to_of
 race_legal = (refl, (refl, (refl, (refl, (refl, (refl, (refl, (refl, tt))))))))
 
 race_paths : IsPath (nat_machine (nat_of four)) (race_begins 0 0) (own_of 0 0 race)
     × IsPath (nat_machine (nat_of four)) (race_begins 1 0) (own_of 1 0 race)
-unfolding flow_key_number port_key_number single_number key_number pair_number flow_to_number claim_number claim_of pair_at pair_of flow_to_of
+unfolding flow_key_number port_key_number single_number
+    key_number pair_number flow_to_number claim_number claim_of pair_at pair_of flow_to_of
 race_paths = ((refl, (refl, (refl, tt))), (refl, (refl, (refl, (refl, (refl, tt))))))
 
-race_visits : visits_of (nat_scene (nat_of four) race_begins) race 6 (entry 7 1 0 (PutIfAbsent (flow five) (to 40002)) (Found (to 40001) 5))
+race_visits : visits_of (nat_scene (nat_of four) race_begins) race 6
+    (entry 7 1 0 (PutIfAbsent (flow five) (to 40002)) (Found (to 40001) 5))
     ≡ record { arrival = record { packet = going five; choice = None }; verdict = Some (Emit (Source (port 40001))) } ∷ []
-unfolding flow_key_number port_key_number single_number key_number pair_number flow_to_number claim_number claim_of pair_at pair_of flow_to_of
+unfolding flow_key_number port_key_number single_number
+    key_number pair_number flow_to_number claim_number claim_of pair_at pair_of flow_to_of
 race_visits = refl
 
 race_unvisited : visits_of (nat_scene (nat_of four) race_begins) race 7 (entry 8 1 0 (DeleteIf (tcp 40002) 6) (Done 8)) ≡ []
-unfolding flow_key_number port_key_number single_number key_number pair_number flow_to_number claim_number claim_of pair_at pair_of flow_to_of
+unfolding flow_key_number port_key_number single_number
+    key_number pair_number flow_to_number claim_number claim_of pair_at pair_of flow_to_of
 race_unvisited = refl
 
 -- ---- the same with one port: the loser reads its flow at last, after the record or before it
@@ -173,12 +206,14 @@ late =
     ∷ []
 
 late_legal : IsLegal late
-unfolding flow_key_number port_key_number single_number key_number pair_number flow_to_number claim_number claim_of pair_at pair_of flow_to_of
+unfolding flow_key_number port_key_number single_number
+    key_number pair_number flow_to_number claim_number claim_of pair_at pair_of flow_to_of
 late_legal = (refl, (refl, (refl, (refl, (refl, (refl, tt))))))
 
 late_ends : (IsPath (nat_machine (nat_of one)) (race_begins 1 0) (own_of 1 0 late))
     × (stand_of (nat_scene (nat_of one) race_begins) 1 0 late ≡ Ends (Some (Emit (Source (port 40000)))))
-unfolding flow_key_number port_key_number single_number key_number pair_number flow_to_number claim_number claim_of pair_at pair_of flow_to_of
+unfolding flow_key_number port_key_number single_number
+    key_number pair_number flow_to_number claim_number claim_of pair_at pair_of flow_to_of
 late_ends = ((refl, (refl, (refl, tt))), refl)
 
 abbrev early : List Entry
@@ -192,13 +227,15 @@ early =
     ∷ []
 
 early_legal : IsLegal early
-unfolding flow_key_number port_key_number single_number key_number pair_number flow_to_number claim_number claim_of pair_at pair_of flow_to_of
+unfolding flow_key_number port_key_number single_number
+    key_number pair_number flow_to_number claim_number claim_of pair_at pair_of flow_to_of
 early_legal = (refl, (refl, (refl, (refl, (refl, (refl, tt))))))
 
 early_ends : (IsPath (nat_machine (nat_of one)) (race_begins 1 0) (own_of 1 0 early))
     × (stand_of (nat_scene (nat_of one) race_begins) 1 0 early ≡ Ends (Some (Dropped NoPort)))
     × (stand_of (nat_scene (nat_of one) race_begins) 0 0 early ≡ Ends (Some (Emit (Source (port 40000)))))
-unfolding flow_key_number port_key_number single_number key_number pair_number flow_to_number claim_number claim_of pair_at pair_of flow_to_of
+unfolding flow_key_number port_key_number single_number
+    key_number pair_number flow_to_number claim_number claim_of pair_at pair_of flow_to_of
 early_ends = ((refl, (refl, (refl, tt))), refl, refl)
 
 -- ---- an orphan claim that a sweep takes away, and a claim of the sweep's own epoch that it leaves
@@ -224,13 +261,15 @@ swept =
     ∷ []
 
 swept_legal : IsLegal swept
-unfolding flow_key_number port_key_number single_number key_number pair_number flow_to_number claim_number claim_of pair_at pair_of flow_to_of
+unfolding flow_key_number port_key_number single_number
+    key_number pair_number flow_to_number claim_number claim_of pair_at pair_of flow_to_of
 swept_legal = (refl, (refl, (refl, (refl, (refl, (refl, (refl, (refl, (refl, (refl, (refl, tt)))))))))))
 
 swept_paths : IsPath (nat_machine (nat_of two)) (sweep_begins 2 0) (own_of 2 0 swept)
     × IsPath (nat_machine (nat_of two)) (sweep_begins 2 1) (own_of 2 1 swept)
     × IsPath (nat_machine (nat_of two)) (sweep_begins 2 3) (own_of 2 3 swept)
-unfolding flow_key_number port_key_number single_number key_number pair_number flow_to_number claim_number claim_of pair_at pair_of flow_to_of
+unfolding flow_key_number port_key_number single_number
+    key_number pair_number flow_to_number claim_number claim_of pair_at pair_of flow_to_of
 swept_paths = ((refl, tt), (refl, (refl, (refl, tt))), (refl, tt))
 
 swept_ends : (stand_of (nat_scene (nat_of two) sweep_begins) 2 0 swept ≡ Ends None)
@@ -238,7 +277,8 @@ swept_ends : (stand_of (nat_scene (nat_of two) sweep_begins) 2 0 swept ≡ Ends 
     × (stand_of (nat_scene (nat_of two) sweep_begins) 2 3 swept ≡ Ends None)
     × (stand_of (nat_scene (nat_of two) sweep_begins) 1 0 swept ≡ Ends (Some (Emit (Source (port 40000)))))
     × (map_after empty swept (port_key Tcp (port 40001)) ≡ None)
-unfolding flow_key_number port_key_number single_number key_number pair_number flow_to_number claim_number claim_of pair_at pair_of flow_to_of
+unfolding flow_key_number port_key_number single_number
+    key_number pair_number flow_to_number claim_number claim_of pair_at pair_of flow_to_of
 swept_ends = (refl, refl, refl, refl, refl)
 
 -- ---- the box alone: a choice that isn't of the pool or is in use is none, and a packet from the inside to the outside

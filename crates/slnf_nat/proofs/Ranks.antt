@@ -66,17 +66,21 @@ tried_small nat i packet place = go (nat_lt (place + 1) nat.ports) refl
 out_falls : (nat : Nat) → 0 < nat.ports → (i : ℕ) (packet : Packet) (state : OutState) (reply : Reply)
     → suc (rank_at (nat_rank nat.ports) (stand_of_step (goes_out nat i packet state reply))) ≤ out_rank nat.ports state
 out_falls nat some i packet Look (Done stamp) = omega arith
-out_falls nat some i packet Look (Found value stamp) = let r : rank_at (nat_rank nat.ports) (stand_of_step (looked (flow_to_of value.0))) ≤ 0 = looked_small nat.ports (flow_to_of value.0) in omega arith
+out_falls nat some i packet Look (Found value stamp) = let r : rank_at (nat_rank nat.ports)
+    (stand_of_step (looked (flow_to_of value.0))) ≤ 0 = looked_small nat.ports (flow_to_of value.0) in omega arith
 out_falls nat some i packet Look Absent = let r : suc ((nat.ports - (0 + 1)) + 3) ≤ nat.ports + 3 = omega (arith, some) in r
 out_falls nat some i packet (Try place) (Done stamp) = omega arith
 out_falls nat some i packet (Try place) (Found value stamp) = tried_small nat i packet place
 out_falls nat some i packet (Try place) Absent = omega arith
 out_falls nat some i packet (Confirm place version) (Done stamp) = omega arith
-out_falls nat some i packet (Confirm place version) (Found value stamp) = let r : rank_at (nat_rank nat.ports) (stand_of_step (released i packet place version (flow_to_of value.0))) ≤ 1 = released_small nat.ports i packet place version (flow_to_of value.0) in omega arith
+out_falls nat some i packet (Confirm place version) (Found value stamp) =
+    let r : rank_at (nat_rank nat.ports) (stand_of_step (released i packet place version (flow_to_of value.0))) ≤ 1 =
+    released_small nat.ports i packet place version (flow_to_of value.0) in omega arith
 out_falls nat some i packet (Confirm place version) Absent = omega arith
 out_falls nat some i packet (Release place version port) reply = omega arith
 out_falls nat some i packet Last (Done stamp) = omega arith
-out_falls nat some i packet Last (Found value stamp) = let r : rank_at (nat_rank nat.ports) (stand_of_step (looked (flow_to_of value.0))) ≤ 0 = looked_small nat.ports (flow_to_of value.0) in omega arith
+out_falls nat some i packet Last (Found value stamp) = let r : rank_at (nat_rank nat.ports)
+    (stand_of_step (looked (flow_to_of value.0))) ≤ 0 = looked_small nat.ports (flow_to_of value.0) in omega arith
 out_falls nat some i packet Last Absent = omega arith
 
 claimed_small : (ports : ℕ) (packet : Packet) (claim : Option Claim) → rank_at (nat_rank ports)
@@ -92,10 +96,14 @@ entered_small ports packet inside (Some to) = omega arith
 in_falls : (ports : ℕ) (packet : Packet) (state : InState) (reply : Reply)
     → suc (rank_at (nat_rank ports) (stand_of_step (goes_in packet state reply))) ≤ in_rank state
 in_falls ports packet LookPort (Done stamp) = omega arith
-in_falls ports packet LookPort (Found value stamp) = let r : rank_at (nat_rank ports) (stand_of_step (claimed packet (claim_of value.0))) ≤ 1 = claimed_small ports packet (claim_of value.0) in omega arith
+in_falls ports packet LookPort (Found value stamp) =
+    let r : rank_at (nat_rank ports) (stand_of_step (claimed packet (claim_of value.0))) ≤ 1 =
+    claimed_small ports packet (claim_of value.0) in omega arith
 in_falls ports packet LookPort Absent = omega arith
 in_falls ports packet (LookFlow inside) (Done stamp) = omega arith
-in_falls ports packet (LookFlow inside) (Found value stamp) = let r : rank_at (nat_rank ports) (stand_of_step (entered packet inside (flow_to_of value.0))) ≤ 0 = entered_small ports packet inside (flow_to_of value.0) in omega arith
+in_falls ports packet (LookFlow inside) (Found value stamp) =
+    let r : rank_at (nat_rank ports) (stand_of_step (entered packet inside (flow_to_of value.0))) ≤ 0 =
+    entered_small ports packet inside (flow_to_of value.0) in omega arith
 in_falls ports packet (LookFlow inside) Absent = omega arith
 
 swept_small : (ports : ℕ) (proto : Proto) (port : Pair) (base version : ℕ) (claim : Option Claim)
@@ -116,10 +124,14 @@ named_small ports proto port base version false = omega arith
 sweep_falls : (ports : ℕ) (proto : Proto) (port : Pair) (base : ℕ) (state : SweepState) (reply : Reply)
     → suc (rank_at (nat_rank ports) (goes_sweep proto port base state reply)) ≤ sweep_rank state
 sweep_falls ports proto port base SweepPort (Done stamp) = omega arith
-sweep_falls ports proto port base SweepPort (Found value stamp) = let r : rank_at (nat_rank ports) (swept proto port base stamp (claim_of value.0)) ≤ 2 = swept_small ports proto port base stamp (claim_of value.0) in omega arith
+sweep_falls ports proto port base SweepPort (Found value stamp) =
+    let r : rank_at (nat_rank ports) (swept proto port base stamp (claim_of value.0)) ≤ 2 =
+    swept_small ports proto port base stamp (claim_of value.0) in omega arith
 sweep_falls ports proto port base SweepPort Absent = omega arith
 sweep_falls ports proto port base (SweepFlow inside version) (Done stamp) = omega arith
-sweep_falls ports proto port base (SweepFlow inside version) (Found value stamp) = let r : rank_at (nat_rank ports) (cond (names port (flow_to_of value.0)) (Ends None) (Flies (Sweep (Remove version) proto port base))) ≤ 1 = named_small ports proto port base version (names port (flow_to_of value.0)) in omega arith
+sweep_falls ports proto port base (SweepFlow inside version) (Found value stamp) = let r : rank_at (nat_rank ports)
+    (cond (names port (flow_to_of value.0)) (Ends None) (Flies (Sweep (Remove version) proto port base))) ≤ 1 =
+    named_small ports proto port base version (names port (flow_to_of value.0)) in omega arith
 sweep_falls ports proto port base (SweepFlow inside version) Absent = omega arith
 sweep_falls ports proto port base (Remove version) reply = omega arith
 

@@ -36,7 +36,14 @@ use Rattle.slnf_access.proofs.Elements.{each-splits}
 use Rattle.std.specs.List.{AllByRecursion}
 
 abbrev nat : Nat
-nat = record { is_out = λ p. p.source.addr == 10; is_in = λ p. p.dest.addr == 203; has = λ p. p.addr == 203; allows = λ inside p. (p.addr == 203) && (nat_le 40000 p.port && nat_le p.port 40001); ports = 2; candidate = λ proto inside k. record { addr = 203; port = 40000 + (inside.port + k) % 2 } }
+nat = record {
+  is_out = λ p. p.source.addr == 10;
+  is_in = λ p. p.dest.addr == 203;
+  has = λ p. p.addr == 203;
+  allows = λ inside p. (p.addr == 203) && (nat_le 40000 p.port && nat_le p.port 40001);
+  ports = 2;
+  candidate = λ proto inside k. record { addr = 203; port = 40000 + (inside.port + k) % 2 };
+}
 
 abbrev inner : Pair
 inner = record { addr = 10; port = 5001 }
@@ -66,36 +73,64 @@ abbrev e1 : Entry
 e1 = record { stamp = 2; shard = 0; incarnation = 0; item = 0; request = nat_asks nat (Out (Try 0) 0 going); reply = Done 2 }
 
 abbrev e2 : Entry
-e2 = record { stamp = 3; shard = 0; incarnation = 1; item = 0; request = nat_asks nat (In LookPort coming); reply = Found (record { 0 = claim_number (record { incarnation = 0; inside = inner }) }) 2 }
+e2 = record {
+  stamp = 3;
+  shard = 0;
+  incarnation = 1;
+  item = 0;
+  request = nat_asks nat (In LookPort coming);
+  reply = Found (record { 0 = claim_number (record { incarnation = 0; inside = inner }) }) 2;
+}
 
 abbrev e3 : Entry
-e3 = record { stamp = 4; shard = 0; incarnation = 1; item = 0; request = nat_asks nat (In (LookFlow inner) coming); reply = Absent }
+e3 = record {
+  stamp = 4;
+  shard = 0;
+  incarnation = 1;
+  item = 0;
+  request = nat_asks nat (In (LookFlow inner) coming);
+  reply = Absent;
+}
 
 abbrev e4 : Entry
-e4 = record { stamp = 5; shard = 0; incarnation = 0; item = 0; request = nat_asks nat (Out (Confirm 0 2) 0 going); reply = Done 5 }
+e4 = record {
+  stamp = 5;
+  shard = 0;
+  incarnation = 0;
+  item = 0;
+  request = nat_asks nat (Out (Confirm 0 2) 0 going);
+  reply = Done 5;
+}
 
 abbrev es : List Entry
 es = e0 ∷ e1 ∷ e2 ∷ e3 ∷ e4 ∷ []
 
 legal : IsLegal es
-unfolding flow_key_number port_key_number single_number key_number pair_number flow_to_number claim_number claim_of pair_at pair_of flow_to_of
+unfolding flow_key_number port_key_number single_number
+    key_number pair_number flow_to_number claim_number claim_of pair_at pair_of flow_to_of
 legal = (refl, (refl, (refl, (refl, (refl, tt)))))
 
-place : visits_of (nat_scene nat begins) es 2 e2 ≡ record { arrival = record { packet = coming; choice = None }; verdict = Some (Dropped NoFlow) } ∷ []
-unfolding flow_key_number port_key_number single_number key_number pair_number flow_to_number claim_number claim_of pair_at pair_of flow_to_of
+place : visits_of (nat_scene nat begins) es 2 e2
+    ≡ record { arrival = record { packet = coming; choice = None }; verdict = Some (Dropped NoFlow) } ∷ []
+unfolding flow_key_number port_key_number single_number
+    key_number pair_number flow_to_number claim_number claim_of pair_at pair_of flow_to_of
 place = refl
 
 no_place : visits_of (nat_scene nat begins) es 3 e3 ≡ []
-unfolding flow_key_number port_key_number single_number key_number pair_number flow_to_number claim_number claim_of pair_at pair_of flow_to_of
+unfolding flow_key_number port_key_number single_number
+    key_number pair_number flow_to_number claim_number claim_of pair_at pair_of flow_to_of
 no_place = refl
 
-out_place : visits_of (nat_scene nat begins) es 4 e4 ≡ record { arrival = record { packet = going; choice = Some outer }; verdict = Some (Emit (Source outer)) } ∷ []
-unfolding flow_key_number port_key_number single_number key_number pair_number flow_to_number claim_number claim_of pair_at pair_of flow_to_of
+out_place : visits_of (nat_scene nat begins) es 4 e4
+    ≡ record { arrival = record { packet = going; choice = Some outer }; verdict = Some (Emit (Source outer)) } ∷ []
+unfolding flow_key_number port_key_number single_number
+    key_number pair_number flow_to_number claim_number claim_of pair_at pair_of flow_to_of
 out_place = refl
 
 content : content_after (nat_scene nat begins)
     (nat_box nat) es 5 ≡ record { proto = Tcp; inside = inner; outside = outer } ∷ []
-unfolding flow_key_number port_key_number single_number key_number pair_number flow_to_number claim_number claim_of pair_at pair_of flow_to_of
+unfolding flow_key_number port_key_number single_number
+    key_number pair_number flow_to_number claim_number claim_of pair_at pair_of flow_to_of
 content = refl
 
 covered : (inside port : Pair) → nat.allows inside port ≡ true
@@ -138,12 +173,48 @@ none_own i k [] h = refl
 none_own i k (x ∷ xs) h = ap (λ b. cond b (x ∷ own_of i k xs) (own_of i k xs)) h.0 ∙ none_own i k xs h.1
 
 paths : (i k : ℕ) → IsPath (nat_machine nat) (begins i k) (own_of i k es)
-unfolding flow_key_number port_key_number single_number key_number pair_number flow_to_number claim_number claim_of pair_at pair_of flow_to_of
+unfolding flow_key_number port_key_number single_number
+    key_number pair_number flow_to_number claim_number claim_of pair_at pair_of flow_to_of
 paths zero zero = (refl, (refl, (refl, tt)))
-paths zero (suc k) = subst (IsPath (nat_machine nat) (begins zero (suc k))) (sym (none_own zero (suc k) es (other zero (suc k) e0 (λ p q. omega arith), (other zero (suc k) e1 (λ p q. omega arith), (other zero (suc k) e2 (λ p q. omega arith), (other zero (suc k) e3 (λ p q. omega arith), (other zero (suc k) e4 (λ p q. omega arith), tt))))))) tt
+paths zero (suc k) = subst (IsPath (nat_machine nat) (begins zero (suc k)))
+    (sym (none_own zero (suc k) es (
+      other zero (suc k) e0 (λ p q. omega arith),
+      (
+        other zero (suc k) e1 (λ p q. omega arith),
+        (
+          other zero (suc k) e2 (λ p q. omega arith),
+          (other zero (suc k) e3 (λ p q. omega arith), (other zero (suc k) e4 (λ p q. omega arith), tt)),
+        ),
+      ),
+    ))) tt
 paths (suc zero) zero = (refl, (refl, tt))
-paths (suc zero) (suc k) = subst (IsPath (nat_machine nat) (begins 1 (suc k))) (sym (none_own 1 (suc k) es (other 1 (suc k) e0 (λ p q. omega arith), (other 1 (suc k) e1 (λ p q. omega arith), (other 1 (suc k) e2 (λ p q. omega arith), (other 1 (suc k) e3 (λ p q. omega arith), (other 1 (suc k) e4 (λ p q. omega arith), tt))))))) tt
-paths (suc (suc i)) k = subst (IsPath (nat_machine nat) (begins (suc (suc i)) k)) (sym (none_own (suc (suc i)) k es (other (suc (suc i)) k e0 (λ p q. omega arith), (other (suc (suc i)) k e1 (λ p q. omega arith), (other (suc (suc i)) k e2 (λ p q. omega arith), (other (suc (suc i)) k e3 (λ p q. omega arith), (other (suc (suc i)) k e4 (λ p q. omega arith), tt))))))) tt
+paths (suc zero) (suc k) =
+    subst (IsPath (nat_machine nat) (begins 1 (suc k))) (sym (none_own 1 (suc k) es (
+      other 1 (suc k) e0
+          (λ p q. omega arith),
+      (
+        other 1 (suc k) e1 (λ p q. omega arith),
+        (
+          other 1 (suc k) e2 (λ p q. omega arith),
+          (other 1 (suc k) e3 (λ p q. omega arith), (other 1 (suc k) e4 (λ p q. omega arith), tt)),
+        ),
+      ),
+    ))) tt
+paths (suc (suc i)) k = subst (IsPath (nat_machine nat) (begins (suc (suc i)) k))
+    (sym (none_own (suc (suc i)) k es (
+      other (suc (suc i)) k e0 (λ p q. omega arith),
+      (
+        other (suc (suc i)) k e1 (λ p q. omega arith),
+        (
+          other (suc (suc i)) k e2 (λ p q. omega arith),
+          (
+            other
+                (suc (suc i)) k e3 (λ p q. omega arith),
+            (other (suc (suc i)) k e4 (λ p q. omega arith), tt),
+          ),
+        ),
+      ),
+    ))) tt
 
 firsts : (i k : ℕ) (flight : NatFlight) → begins i k ≡ Flies flight → first_of flight ≡ flight
 firsts zero zero flight h = subst (λ f. first_of f ≡ f) (same_flight _ flight h) refl
@@ -152,9 +223,11 @@ firsts (suc i) zero flight h = subst (λ f. first_of f ≡ f) (same_flight _ fli
 firsts (suc i) (suc k) flight h = absurd (cc)
 
 ranges : (i k : ℕ) (flight : NatFlight) → begins i k ≡ Flies flight → IsRanged nat (λ i. 0) i flight
-ranges zero zero flight h = subst (IsRanged nat (λ i. 0) 0) (same_flight _ flight h) (refl, omega arith, record { addr_fits = omega arith; port_fits = omega arith }, refl)
+ranges zero zero flight h = subst (IsRanged nat (λ i. 0) 0)
+    (same_flight _ flight h) (refl, omega arith, record { addr_fits = omega arith; port_fits = omega arith }, refl)
 ranges zero (suc k) flight h = absurd (cc)
-ranges (suc i) zero flight h = subst (IsRanged nat (λ i. 0) (suc i)) (same_flight _ flight h) (record { addr_fits = omega arith; port_fits = omega arith }, refl, refl)
+ranges (suc i) zero flight h = subst (IsRanged nat (λ i. 0) (suc i))
+    (same_flight _ flight h) (record { addr_fits = omega arith; port_fits = omega arith }, refl, refl)
 ranges (suc i) (suc k) flight h = absurd (cc)
 
 -- stamps rise along the whole list

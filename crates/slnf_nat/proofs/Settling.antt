@@ -54,7 +54,8 @@ at_least [] (suc number) j era there low = absurd (nothing there)
     nothing : slice_get [] (suc number) ≡ Some era → ⊥
     nothing h = cc
 at_least (own ∷ eras) zero j era there low = omega arith
-at_least (own ∷ eras) (suc number) j era there low = go (λ h. at_least eras number (j - length own.actors) era there h) (nat_lt j (length own.actors)) refl
+at_least (own ∷ eras) (suc number) j era there low =
+    go (λ h. at_least eras number (j - length own.actors) era there h) (nat_lt j (length own.actors)) refl
   where
     go : (base_of eras number ≤ j - length own.actors → number ≤ era_of eras (j - length own.actors)) → (b : Bool)
         → nat_lt j (length own.actors) ≡ b → suc number ≤ cond b 0 (era_of eras (j - length own.actors) + 1)
@@ -70,11 +71,13 @@ not_ended : (nat : Nat) (proto : Proto) (port inside : Pair) (since : ℕ) (st :
 not_ended nat proto port inside since (Flies flight) ended h = ended
 not_ended nat proto port inside since (Ends end) ended h = h
 
-module _ {G : Type 0} (s : Setting G NatArrival) (into : NatFlight → G) (nat : Nat) (begins : ℕ → ℕ → Stand NatFlight) (es : List Entry) (is : IsNatSetting s into nat begins es) (run : IsRun s es) where
+module _ {G : Type 0} (s : Setting G NatArrival) (into : NatFlight → G) (nat : Nat) (begins : ℕ → ℕ → Stand NatFlight)
+    (es : List Entry) (is : IsNatSetting s into nat begins es) (run : IsRun s es) where
   -- No actor of this epoch is stopped.
   pub settles : (number t : ℕ) (era : Era) → slice_get s.eras number ≡ Some era
       → IsThrough (era_of s.eras) number es t
-      → ((j : ℕ) (post : Post) → slice_get (posts_of s es) j ≡ Some post → era_of s.eras j ≡ number → is_stopped post.actor (part_of j es) ≡ false)
+      → ((j : ℕ) (post : Post) → slice_get (posts_of s es) j ≡ Some post
+      → era_of s.eras j ≡ number → is_stopped post.actor (part_of j es) ≡ false)
       → IsSettled nat begins (base_of s.eras number) (take t es)
   settles number t era there through running i k proto port inside since high hangs = go (own_or_none i k (take t es))
     where
@@ -85,33 +88,46 @@ module _ {G : Type 0} (s : Setting G NatArrival) (into : NatFlight → G) (nat :
       go (inr has) = by (slice_get (posts_of s es) i) refl
         where
           upto : era_of s.eras i ≤ number
-          upto = some_entry-each (λ f. (f.incarnation ≡ i) × (f.item ≡ k)) (λ f. era_of s.eras f.incarnation ≤ number) (era_of s.eras i ≤ number) (take t es) has through.front (λ f own le. subst (λ n. era_of s.eras n ≤ number) own.0 le)
+          upto = some_entry-each (λ f. (f.incarnation ≡ i) × (f.item ≡ k))
+              (λ f. era_of s.eras f.incarnation ≤ number) (era_of s.eras i ≤ number) (take t es) has through.front
+              (λ f own le. subst (λ n. era_of s.eras n ≤ number) own.0 le)
 
           own_epoch : era_of s.eras i ≡ number
           own_epoch = let low : number ≤ era_of s.eras i = at_least s.eras number i era there high in omega (arith, upto)
 
           whole_has : SomeEntry (λ f. (f.incarnation ≡ i) × (f.item ≡ k)) es
-          whole_has = subst (SomeEntry (λ f. (f.incarnation ≡ i) × (f.item ≡ k))) (take-append-drop t es) (some_entry-more (λ f. (f.incarnation ≡ i) × (f.item ≡ k)) (take t es) (drop t es) has)
+          whole_has = subst (SomeEntry (λ f. (f.incarnation ≡ i) × (f.item ≡ k))) (take-append-drop t es)
+              (some_entry-more (λ f. (f.incarnation ≡ i) × (f.item ≡ k)) (take t es) (drop t es) has)
 
           posted : i < length (posts_of s es)
-          posted = some_entry-each (λ f. (f.incarnation ≡ i) × (f.item ≡ k)) (λ f. f.incarnation < length (posts_of s es)) (i < length (posts_of s es)) es whole_has run.of_actors (λ f own less. subst (λ n. n < length (posts_of s es)) own.0 less)
+          posted = some_entry-each (λ f. (f.incarnation ≡ i) × (f.item ≡ k))
+              (λ f. f.incarnation < length (posts_of s es)) (i < length (posts_of s es)) es whole_has run.of_actors
+              (λ f own less. subst (λ n. n < length (posts_of s es)) own.0 less)
 
           no_later : AllByRecursion (λ f. f.incarnation ≡ i → ⊥) (drop t es)
-          no_later = each-weaker (λ f. number < era_of s.eras f.incarnation) (λ f. f.incarnation ≡ i → ⊥) (λ f more same. let e : era_of s.eras f.incarnation ≡ era_of s.eras i = ap (era_of s.eras) same in omega (arith, upto)) (drop t es) through.back
+          no_later = each-weaker (λ f. number < era_of s.eras f.incarnation) (λ f. f.incarnation ≡ i → ⊥)
+              (λ f more same. let e : era_of s.eras f.incarnation ≡ era_of s.eras i = ap (era_of s.eras) same in
+              omega (arith, upto)) (drop t es) through.back
 
           stands : stand_of (nat_scene nat begins) i k es ≡ stand_of (nat_scene nat begins) i k (take t es)
           stands =
               ap (stand_of (nat_scene nat begins) i k) (sym (take-append-drop t es))
               ∙ stand_of-append (nat_scene nat begins) i k (take t es) (drop t es)
-              ∙ ap (stand_after (nat_machine nat) (stand_of (nat_scene nat begins) i k (take t es))) (none_of i k (drop t es) no_later)
+              ∙ ap (stand_after (nat_machine nat) (stand_of (nat_scene nat begins) i k (take t es)))
+              (none_of i k (drop t es) no_later)
 
           ended : (post : Post) → slice_get (posts_of s es) i ≡ Some post → HasEnded (stand_of s.scene i k es) → ⊥
           ended post at done =
-              not_ended nat proto port inside since _ (subst HasEnded stands (ended_as into (nat_machine nat) (s.scene.machine i) (is.image.machine i) (begins i k) (own_of i k es) (subst (λ st. HasEnded (stand_after (s.scene.machine i) st (own_of i k es))) (is.image.begins i k) done))) hangs
+              not_ended nat proto port inside since _ (subst HasEnded stands (ended_as into
+              (nat_machine nat) (s.scene.machine i) (is.image.machine i) (begins i k) (own_of i k es) (subst (λ st.
+              HasEnded (stand_after (s.scene.machine i) st (own_of i k es))) (is.image.begins i k) done))) hangs
 
           by_done : (post : Post) → slice_get (posts_of s es) i ≡ Some post → IsDone s es i post → ⊥
-          by_done post at (inl stopped) = let no : is_stopped post.actor (part_of i es) ≡ false = running i post at own_epoch in cc
-          by_done post at (inr done) = ended post at (ended_offer s i k es (offers_at s i post) (offered_there i k (λ item. IsOffered item (offers_at s i post)) es whole_has (run.offered i post at)) done.1)
+          by_done post at (inl stopped) =
+              let no : is_stopped post.actor (part_of i es) ≡ false = running i post at own_epoch in
+              cc
+          by_done post at (inr done) = ended post at (ended_offer s i k es (offers_at s i post) (offered_there i k
+              (λ item. IsOffered item (offers_at s i post)) es whole_has (run.offered i post at)) done.1)
 
           by : (o : Option Post) → slice_get (posts_of s es) i ≡ o → ⊥
           by None at = nothing (posts_of s es) i posted at

@@ -42,14 +42,19 @@ StandHolds nat base_at es cells i k (Flies flight) = Holds nat base_at es cells 
 StandHolds nat base_at es cells i k (Ends end) = Unit {0}
 
 -- What an entry of a flight leaves.
-pub record Outcome (nat : Nat) (base_at : ℕ → ℕ) (before : List Entry) (e : Entry) (cells next : Cells) (flight : NatFlight) : Type 0 where
+pub record Outcome (nat : Nat) (base_at : ℕ → ℕ) (before : List Entry)
+    (e : Entry) (cells next : Cells) (flight : NatFlight) : Type 0 where
   pub live : IsLive nat next
   pub carries : Carries base_at before e cells next
   pub own : StandHolds nat base_at (before ++ e ∷ []) next e.incarnation e.item (nat_goes nat flight e.reply)
   pub boxes : (c : List Flow) → IsBoxed c cells → Boxes nat c flight next (choice_for flight e.request e.reply)
       (decides nat flight e.reply)
 
-module _ (nat : Nat) (is_nat : IsNat nat) (base_at : ℕ → ℕ) (before : List Entry) (e : Entry) (cells : Cells) (stamped : HasStamps before cells) (live : IsLive nat cells) (fresh : AllByRecursion (λ f. key_of f.request ≡ key_of e.request → f.stamp < e.stamp) before) (epochs : AllByRecursion (λ f. base_at f.incarnation ≤ base_at e.incarnation) before) (based : base_at e.incarnation ≤ e.incarnation) (replied : e.reply ≡ reply_to e.request e.stamp (cells (key_of e.request))) where
+module _ (nat : Nat) (is_nat : IsNat nat) (base_at : ℕ → ℕ) (before : List Entry)
+    (e : Entry) (cells : Cells) (stamped : HasStamps before cells) (live : IsLive nat cells)
+    (fresh : AllByRecursion (λ f. key_of f.request ≡ key_of e.request → f.stamp < e.stamp) before)
+    (epochs : AllByRecursion (λ f. base_at f.incarnation ≤ base_at e.incarnation) before) (based : base_at e.incarnation
+    ≤ e.incarnation) (replied : e.reply ≡ reply_to e.request e.stamp (cells (key_of e.request))) where
   -- the item's own epoch is the last so far
   running_each : (es : List Entry) → AllByRecursion (λ f. base_at f.incarnation ≤ base_at e.incarnation) es
       → AllByRecursion (λ f. base_at f.incarnation ≤ e.incarnation) es
@@ -63,7 +68,8 @@ module _ (nat : Nat) (is_nat : IsNat nat) (base_at : ℕ → ℕ) (before : List
   outcome : (next : Cells) (flight : NatFlight) (reply : Reply) → e.request ≡ nat_asks nat flight → e.reply ≡ reply
       → IsLive nat next → Carries base_at before e cells next
       → StandHolds nat base_at (before ++ e ∷ []) next e.incarnation e.item (nat_goes nat flight reply)
-      → ((c : List Flow) → IsBoxed c cells → Boxes nat c flight next (choice_for flight (nat_asks nat flight) reply) (decides nat flight reply))
+      → ((c : List Flow) → IsBoxed c cells
+      → Boxes nat c flight next (choice_for flight (nat_asks nat flight) reply) (decides nat flight reply))
       → Outcome nat base_at before e cells next flight
   outcome next flight reply asked is then carries own boxes = record {
     live = then;
@@ -71,17 +77,20 @@ module _ (nat : Nat) (is_nat : IsNat nat) (base_at : ℕ → ℕ) (before : List
     own = subst (λ r. StandHolds nat base_at (before ++ e ∷ []) next e.incarnation e.item (nat_goes nat flight r)) (sym is) own;
     boxes = λ c boxed.
         subst (λ q. Boxes nat c flight next (choice_for flight q e.reply) (decides nat flight e.reply)) (sym asked)
-        (subst (λ r. Boxes nat c flight next (choice_for flight (nat_asks nat flight) r) (decides nat flight r)) (sym is) (boxes c boxed));
+        (subst (λ r. Boxes nat c flight next (choice_for flight (nat_asks nat flight) r) (decides nat flight r))
+        (sym is) (boxes c boxed));
   }
 
   -- an outcome without an effect
   quiet : (flight : NatFlight) (reply : Reply) → e.request ≡ nat_asks nat flight → e.reply ≡ reply
       → after cells e ≡ cells
       → StandHolds nat base_at (before ++ e ∷ []) cells e.incarnation e.item (nat_goes nat flight reply)
-      → ((c : List Flow) → IsBoxed c cells → Boxes nat c flight cells (choice_for flight (nat_asks nat flight) reply) (decides nat flight reply))
+      → ((c : List Flow) → IsBoxed c cells
+      → Boxes nat c flight cells (choice_for flight (nat_asks nat flight) reply) (decides nat flight reply))
       → Outcome nat base_at before e cells (after cells e) flight
   quiet flight reply asked is same own boxes =
-      subst (λ next. Outcome nat base_at before e cells next flight) (sym same) (outcome cells flight reply asked is live (quiet_carries base_at before e cells) own boxes)
+      subst (λ next. Outcome nat base_at before e cells next flight)
+      (sym same) (outcome cells flight reply asked is live (quiet_carries base_at before e cells) own boxes)
 
   looked_holds : (o : Option FlowTo)
       → StandHolds nat base_at (before ++ e ∷ []) cells e.incarnation e.item (stand_of_step (looked o))
@@ -109,8 +118,11 @@ module _ (nat : Nat) (is_nat : IsNat nat) (base_at : ℕ → ℕ) (before : List
     where
       go : (cell : Option Held) → cells (flow_key packet.proto packet.source) ≡ cell
           → Outcome nat base_at before e cells (after cells e) (Out Look i packet)
-      go None is = quiet (Out Look i packet) Absent asked (read_reply cells e _ None asked replied is) (read_effect cells e _ asked) is_nat.some (λ c boxed. boxed)
-      go (Some held) is = quiet (Out Look i packet) (Found held.value held.version) asked (read_reply cells e _ (Some held) asked replied is) (read_effect cells e _ asked) (looked_holds (flow_to_of held.value.0))
+      go None is = quiet (Out Look i packet) Absent asked
+          (read_reply cells e _ None asked replied is) (read_effect cells e _ asked) is_nat.some (λ c boxed. boxed)
+      go (Some held) is = quiet (Out Look i packet)
+          (Found held.value held.version) asked (read_reply cells e _ (Some held) asked replied is)
+          (read_effect cells e _ asked) (looked_holds (flow_to_of held.value.0))
           (looked_boxes Look i packet None held ranged is (flow_to_of held.value.0) refl)
 
   -- in Last
@@ -121,9 +133,12 @@ module _ (nat : Nat) (is_nat : IsNat nat) (base_at : ℕ → ℕ) (before : List
     where
       go : (cell : Option Held) → cells (flow_key packet.proto packet.source) ≡ cell
           → Outcome nat base_at before e cells (after cells e) (Out Last i packet)
-      go None is = quiet (Out Last i packet) Absent asked (read_reply cells e _ None asked replied is) (read_effect cells e _ asked) tt
+      go None is = quiet (Out Last i packet) Absent asked
+          (read_reply cells e _ None asked replied is) (read_effect cells e _ asked) tt
           (λ c boxed. boxed_none nat c cells packet ranged.3 ranged.2 (ap flow_in is) boxed)
-      go (Some held) is = quiet (Out Last i packet) (Found held.value held.version) asked (read_reply cells e _ (Some held) asked replied is) (read_effect cells e _ asked) (looked_holds (flow_to_of held.value.0))
+      go (Some held) is = quiet (Out Last i packet)
+          (Found held.value held.version) asked (read_reply cells e _ (Some held) asked replied is)
+          (read_effect cells e _ asked) (looked_holds (flow_to_of held.value.0))
           (looked_boxes Last i packet None held ranged is (flow_to_of held.value.0) refl)
 
   -- in Try
@@ -145,7 +160,8 @@ module _ (nat : Nat) (is_nat : IsNat nat) (base_at : ℕ → ℕ) (before : List
       mark = record { incarnation = i; inside = packet.source }
 
       reads : claim_of value.0 ≡ Some mark
-      reads = claim-coded.reads (record { incarnation = i; inside = packet.source }) (subst (λ n. n < 2 ^ 32) (sym ranged.0) ranged.1, ranged.2)
+      reads = claim-coded.reads (record { incarnation = i; inside = packet.source })
+          (subst (λ n. n < 2 ^ 32) (sym ranged.0) ranged.1, ranged.2)
 
       taken : (b : Bool) → nat_lt (number + 1) nat.ports ≡ b
           → HoldsOut nat base_at (before ++ e ∷ []) cells e.incarnation e.item packet (cond b (Try (number + 1)) Last)
@@ -166,8 +182,10 @@ module _ (nat : Nat) (is_nat : IsNat nat) (base_at : ℕ → ℕ) (before : List
           since = refl;
           claim = reads ∙ ap (λ n. Some (record { incarnation = n; inside = packet.source })) ranged.0;
         };
-        made = some_entry-last (λ f. (key_of f.request ≡ key) × (f.stamp ≡ e.stamp) × (f.incarnation ≡ e.incarnation) × (f.item ≡ e.item)) before e (ap key_of asked, refl, refl, refl);
-        unnamed = unnamed_stays cells (after cells e) packet.proto (tried nat packet number) (claimed_flows cells (after cells e) packet.proto (tried nat packet number) value e.stamp put fits mark reads) free;
+        made = some_entry-last (λ f. (key_of f.request ≡ key) × (f.stamp ≡ e.stamp)
+            × (f.incarnation ≡ e.incarnation) × (f.item ≡ e.item)) before e (ap key_of asked, refl, refl, refl);
+        unnamed = unnamed_stays cells (after cells e) packet.proto (tried nat packet number) (claimed_flows cells
+            (after cells e) packet.proto (tried nat packet number) value e.stamp put fits mark reads) free;
       }
         where
           free : IsUnnamed cells packet.proto (tried nat packet number)
@@ -183,11 +201,15 @@ module _ (nat : Nat) (is_nat : IsNat nat) (base_at : ℕ → ℕ) (before : List
           let put : IsPut cells (after cells e) key value e.stamp = put_done cells e _ _ asked is in
           outcome (after cells e) (Out (Try number) i packet) (Done e.stamp) asked (put_reply cells e _ _ None asked replied is)
           (claimed_live cells (after cells e) packet.proto (tried nat packet number) value e.stamp put fits mark reads nat live)
-          (claimed_carries cells (after cells e) packet.proto (tried nat packet number) value e.stamp put fits mark reads base_at before e (subst (λ n. AllByRecursion (λ f. key_of f.request ≡ n → f.stamp < e.stamp) before) (ap key_of asked) fresh))
+          (claimed_carries cells (after cells e) packet.proto
+          (tried nat packet number) value e.stamp put fits mark reads base_at before e (subst
+          (λ n. AllByRecursion (λ f. key_of f.request ≡ n → f.stamp < e.stamp) before) (ap key_of asked) fresh))
           (low, λ running. owned put)
-          (λ c boxed. boxed_same c cells (after cells e) (claimed_flows cells (after cells e) packet.proto (tried nat packet number) value e.stamp put fits mark reads) boxed)
+          (λ c boxed. boxed_same c cells (after cells e) (claimed_flows cells
+          (after cells e) packet.proto (tried nat packet number) value e.stamp put fits mark reads) boxed)
       go (Some held) is =
-          quiet (Out (Try number) i packet) (Found held.value held.version) asked (put_reply cells e _ _ (Some held) asked replied is) (put_found cells e _ _ held asked is)
+          quiet (Out (Try number) i packet) (Found held.value held.version) asked
+          (put_reply cells e _ _ (Some held) asked replied is) (put_found cells e _ _ held asked is)
           (taken (nat_lt (number + 1) nat.ports) refl)
           (λ c boxed. undecided c (nat_lt (number + 1) nat.ports) boxed)
 
@@ -197,7 +219,8 @@ module _ (nat : Nat) (is_nat : IsNat nat) (base_at : ℕ → ℕ) (before : List
       → IsOwned (before ++ e ∷ []) cells e.incarnation e.item packet.proto port version packet.source
   owned_more packet port version owned = record {
     claimed = owned.claimed;
-    made = some_entry-more (λ f. (key_of f.request ≡ port_key packet.proto port) × (f.stamp ≡ version) × (f.incarnation ≡ e.incarnation) × (f.item ≡ e.item)) before (e ∷ []) owned.made;
+    made = some_entry-more (λ f. (key_of f.request ≡ port_key packet.proto port)
+        × (f.stamp ≡ version) × (f.incarnation ≡ e.incarnation) × (f.item ≡ e.item)) before (e ∷ []) owned.made;
     unnamed = owned.unnamed;
   }
 
@@ -225,13 +248,15 @@ module _ (nat : Nat) (is_nat : IsNat nat) (base_at : ℕ → ℕ) (before : List
       reads = flow_to-coded.reads (record { outside = at }) fits
 
       found : (o : Option FlowTo)
-          → StandHolds nat base_at (before ++ e ∷ []) cells e.incarnation e.item (stand_of_step (released i packet number version o))
+          → StandHolds nat base_at (before ++ e ∷ []) cells e.incarnation e.item
+          (stand_of_step (released i packet number version o))
       found None = tt
       found (Some to) = λ running. owned_more packet at version owned
 
       known : (held : Held) → cells key ≡ Some held → (o : Option FlowTo) → flow_to_of held.value.0 ≡ o
           → (c : List Flow) → IsBoxed c cells
-          → Boxes nat c (Out (Confirm number version) i packet) cells None (decided_at (nat_machine nat) (stand_of_step (released i packet number version o)))
+          → Boxes nat c (Out (Confirm number version) i packet) cells None
+          (decided_at (nat_machine nat) (stand_of_step (released i packet number version o)))
       known held is None w c boxed =
           let none : flow_at cells packet.proto packet.source ≡ None = ap flow_in is ∙ ap outside_of w in
           let gone : cells key ≡ None = live.whole packet.proto packet.source ranged.2 none in
@@ -245,26 +270,35 @@ module _ (nat : Nat) (is_nat : IsNat nat) (base_at : ℕ → ℕ) (before : List
 
       new : IsPut cells (after cells e) key value e.stamp → (c : List Flow) → IsBoxed c cells
           → Boxes nat c (Out (Confirm number version) i packet) (after cells e)
-          (choice_for (Out (Confirm number version) i packet) (nat_asks nat (Out (Confirm number version) i packet)) (Done e.stamp))
+          (choice_for (Out (Confirm number version) i packet)
+          (nat_asks nat (Out (Confirm number version) i packet)) (Done e.stamp))
           (decides nat (Out (Confirm number version) i packet) (Done e.stamp))
       new put c boxed =
-          subst (λ o. Boxes nat c (Out (Confirm number version) i packet) (after cells e) o (decides nat (Out (Confirm number version) i packet) (Done e.stamp))) (sym chosen)
-          (boxed_new nat c cells (after cells e) packet at ranged.3 (is_nat.candidate_allowed packet.proto packet.source number) ranged.2
-          (recorded_here nat cells (after cells e) before packet.proto packet.source at number value e.stamp version e put reads ranged.2 fits owned)
-          (recorded_other nat cells (after cells e) before packet.proto packet.source at number value e.stamp version e put reads ranged.2 fits owned)
+          subst (λ o. Boxes nat c (Out (Confirm number version) i packet)
+          (after cells e) o (decides nat (Out (Confirm number version) i packet) (Done e.stamp))) (sym chosen)
+          (boxed_new nat c cells (after cells e) packet at ranged.3
+          (is_nat.candidate_allowed packet.proto packet.source number) ranged.2
+          (recorded_here nat cells (after cells e)
+          before packet.proto packet.source at number value e.stamp version e put reads ranged.2 fits owned)
+          (recorded_other nat cells (after cells e)
+          before packet.proto packet.source at number value e.stamp version e put reads ranged.2 fits owned)
           (ap flow_in put.absent) owned.unnamed boxed)
 
       go : (cell : Option Held) → cells key ≡ cell → Outcome nat base_at before e cells (after cells e)
           (Out (Confirm number version) i packet)
       go None is =
           let put : IsPut cells (after cells e) key value e.stamp = put_done cells e _ _ asked is in
-          outcome (after cells e) (Out (Confirm number version) i packet) (Done e.stamp) asked (put_reply cells e _ _ None asked replied is)
-          (recorded_live nat cells (after cells e) before packet.proto packet.source at number value e.stamp version e put reads ranged.2 fits owned low refl live)
-          (recorded_carries nat cells (after cells e) before packet.proto packet.source at number value e.stamp version e put reads ranged.2 fits owned base_at stamped epochs based)
+          outcome (after cells e) (Out (Confirm number version) i packet)
+          (Done e.stamp) asked (put_reply cells e _ _ None asked replied is)
+          (recorded_live nat cells (after cells e) before
+          packet.proto packet.source at number value e.stamp version e put reads ranged.2 fits owned low refl live)
+          (recorded_carries nat cells (after cells e) before packet.proto
+          packet.source at number value e.stamp version e put reads ranged.2 fits owned base_at stamped epochs based)
           tt
           (new put)
       go (Some held) is =
-          quiet (Out (Confirm number version) i packet) (Found held.value held.version) asked (put_reply cells e _ _ (Some held) asked replied is) (put_found cells e _ _ held asked is)
+          quiet (Out (Confirm number version) i packet) (Found held.value held.version) asked
+          (put_reply cells e _ _ (Some held) asked replied is) (put_found cells e _ _ held asked is)
           (found (flow_to_of held.value.0))
           (known held is (flow_to_of held.value.0) refl)
 
@@ -309,7 +343,8 @@ module _ (nat : Nat) (is_nat : IsNat nat) (base_at : ℕ → ℕ) (before : List
       sole j l v inside other running theirs =
           let one : theirs.claimed.held ≡ owned.claimed.held = same_Some _ _ (sym theirs.claimed.there ∙ owned.claimed.there) in
           let versions : v ≡ version = sym theirs.claimed.since ∙ ap (λ (h : Held). h.version) one ∙ owned.claimed.since in
-          let both : (j ≡ e.incarnation) × (l ≡ e.item) = stamped.makers key version j l e.incarnation e.item (subst (λ u. IsStampBy before key u j l) versions theirs.made) owned.made in
+          let both : (j ≡ e.incarnation) × (l ≡ e.item) = stamped.makers key version j l e.incarnation e.item
+          (subst (λ u. IsStampBy before key u j l) versions theirs.made) owned.made in
           let mine : is_of j l e ≡ true = rw (eq-eqb e.incarnation j (sym both.0), eq-eqb e.item l (sym both.1)) refl in
           cc
 
@@ -333,13 +368,15 @@ module _ (nat : Nat) (is_nat : IsNat nat) (base_at : ℕ → ℕ) (before : List
       → IsRanged nat base_at e.incarnation (In (LookFlow inside) packet) → IsPair inside
       → cells (flow_key packet.proto inside) ≡ Some held → (o : Option FlowTo) → flow_to_of held.value.0 ≡ o
       → (c : List Flow) → IsBoxed c cells
-      → Boxes nat c (In (LookFlow inside) packet) cells None (decided_at (nat_machine nat) (stand_of_step (entered packet inside o)))
+      → Boxes nat c (In (LookFlow inside) packet) cells None
+      (decided_at (nat_machine nat) (stand_of_step (entered packet inside o)))
   entered_boxes packet inside held ranged fits is None w c boxed = boxed
   entered_boxes packet inside held ranged fits is (Some to) w c boxed = go (is_same_pair to.outside packet.dest) refl
     where
       go : (b : Bool) → is_same_pair to.outside packet.dest ≡ b
           → Boxes nat c (In (LookFlow inside) packet) cells None (Some (cond b (Emit (Dest inside)) (Dropped NoFlow)))
-      go true same = boxed_in nat c cells packet None inside ranged.1 ranged.2 fits (ap flow_in is ∙ ap outside_of w ∙ ap (λ (p : Pair). Some p) (same_pair to.outside packet.dest same)) boxed
+      go true same = boxed_in nat c cells packet None inside ranged.1 ranged.2 fits
+          (ap flow_in is ∙ ap outside_of w ∙ ap (λ (p : Pair). Some p) (same_pair to.outside packet.dest same)) boxed
       go false differs = boxed
 
   pub entering : (state : InState) (packet : Packet) → e.request ≡ nat_asks nat (In state packet)
@@ -349,18 +386,22 @@ module _ (nat : Nat) (is_nat : IsNat nat) (base_at : ℕ → ℕ) (before : List
     where
       go : (cell : Option Held) → cells (port_key packet.proto packet.dest) ≡ cell
           → Outcome nat base_at before e cells (after cells e) (In LookPort packet)
-      go None is = quiet (In LookPort packet) Absent asked (read_reply cells e _ None asked replied is) (read_effect cells e _ asked) tt (λ c boxed. boxed)
+      go None is = quiet (In LookPort packet) Absent asked
+          (read_reply cells e _ None asked replied is) (read_effect cells e _ asked) tt (λ c boxed. boxed)
       go (Some held) is =
-          quiet (In LookPort packet) (Found held.value held.version) asked (read_reply cells e _ (Some held) asked replied is) (read_effect cells e _ asked)
+          quiet (In LookPort packet) (Found held.value held.version) asked
+          (read_reply cells e _ (Some held) asked replied is) (read_effect cells e _ asked)
           (claimed_holds packet held.value (claim_of held.value.0) refl)
           (claimed_boxes packet None (claim_of held.value.0))
   entering (LookFlow inside) packet asked ranged holds = go (cells (flow_key packet.proto inside)) refl
     where
       go : (cell : Option Held) → cells (flow_key packet.proto inside) ≡ cell
           → Outcome nat base_at before e cells (after cells e) (In (LookFlow inside) packet)
-      go None is = quiet (In (LookFlow inside) packet) Absent asked (read_reply cells e _ None asked replied is) (read_effect cells e _ asked) tt (λ c boxed. boxed)
+      go None is = quiet (In (LookFlow inside) packet) Absent asked
+          (read_reply cells e _ None asked replied is) (read_effect cells e _ asked) tt (λ c boxed. boxed)
       go (Some held) is =
-          quiet (In (LookFlow inside) packet) (Found held.value held.version) asked (read_reply cells e _ (Some held) asked replied is) (read_effect cells e _ asked)
+          quiet (In (LookFlow inside) packet) (Found held.value held.version) asked
+          (read_reply cells e _ (Some held) asked replied is) (read_effect cells e _ asked)
           (entered_holds packet inside (flow_to_of held.value.0))
           (entered_boxes packet inside held ranged holds is (flow_to_of held.value.0) refl)
 
@@ -382,8 +423,10 @@ module _ (nat : Nat) (is_nat : IsNat nat) (base_at : ℕ → ℕ) (before : List
       seen : (held : Held) → cells (port_key proto port) ≡ Some held
           → HasSeen base_at (before ++ e ∷ []) proto port base held.version
       seen held is = record {
-        stamped = some_entry-more (λ f. (key_of f.request ≡ port_key proto port) × (f.stamp ≡ held.version)) before (e ∷ []) (stamped.versions (port_key proto port) held is);
-        begun = some_entry-last (λ f. base ≤ base_at f.incarnation) before e (let same : base ≡ base_at e.incarnation = ranged.1 in omega arith);
+        stamped = some_entry-more (λ f. (key_of f.request ≡ port_key proto port) × (f.stamp ≡ held.version)) before
+            (e ∷ []) (stamped.versions (port_key proto port) held is);
+        begun = some_entry-last (λ f. base ≤ base_at f.incarnation) before e
+            (let same : base ≡ base_at e.incarnation = ranged.1 in omega arith);
       }
 
       found : (held : Held) → cells (port_key proto port) ≡ Some held → (o : Option Claim)
@@ -393,7 +436,8 @@ module _ (nat : Nat) (is_nat : IsNat nat) (base_at : ℕ → ℕ) (before : List
       found held is (Some claim) w = below (nat_lt claim.incarnation base) refl
         where
           below : (b : Bool) → nat_lt claim.incarnation base ≡ b
-              → StandHolds nat base_at (before ++ e ∷ []) cells e.incarnation e.item (cond b (Flies (Sweep (SweepFlow claim.inside held.version) proto port base)) (Ends None))
+              → StandHolds nat base_at (before ++ e ∷ []) cells e.incarnation e.item
+              (cond b (Flies (Sweep (SweepFlow claim.inside held.version) proto port base)) (Ends None))
           below true less = (
             seen held is,
             λ there at since.
@@ -403,20 +447,24 @@ module _ (nat : Nat) (is_nat : IsNat nat) (base_at : ℕ → ℕ) (before : List
           below false less = tt
 
       swept_boxes : (held : Held) (o : Option Claim) (c : List Flow) → IsBoxed c cells
-          → Boxes nat c (Sweep SweepPort proto port base) cells None (decided_at (nat_machine nat) (swept proto port base held.version o))
+          → Boxes nat c (Sweep SweepPort proto port base) cells None
+          (decided_at (nat_machine nat) (swept proto port base held.version o))
       swept_boxes held None c boxed = boxed
       swept_boxes held (Some claim) c boxed = go (nat_lt claim.incarnation base)
         where
           go : (b : Bool)
-              → Boxes nat c (Sweep SweepPort proto port base) cells None (decided_at (nat_machine nat) (cond b (Flies (Sweep (SweepFlow claim.inside held.version) proto port base)) (Ends None)))
+              → Boxes nat c (Sweep SweepPort proto port base) cells None (decided_at (nat_machine nat)
+              (cond b (Flies (Sweep (SweepFlow claim.inside held.version) proto port base)) (Ends None)))
           go true = boxed
           go false = boxed
 
       go : (cell : Option Held) → cells (port_key proto port) ≡ cell
           → Outcome nat base_at before e cells (after cells e) (Sweep SweepPort proto port base)
-      go None is = quiet (Sweep SweepPort proto port base) Absent asked (read_reply cells e _ None asked replied is) (read_effect cells e _ asked) tt (λ c boxed. boxed)
+      go None is = quiet (Sweep SweepPort proto port base) Absent asked
+          (read_reply cells e _ None asked replied is) (read_effect cells e _ asked) tt (λ c boxed. boxed)
       go (Some held) is =
-          quiet (Sweep SweepPort proto port base) (Found held.value held.version) asked (read_reply cells e _ (Some held) asked replied is) (read_effect cells e _ asked)
+          quiet (Sweep SweepPort proto port base) (Found held.value held.version) asked
+          (read_reply cells e _ (Some held) asked replied is) (read_effect cells e _ asked)
           (found held is (claim_of held.value.0) refl)
           (swept_boxes held (claim_of held.value.0))
 
@@ -438,7 +486,9 @@ module _ (nat : Nat) (is_nat : IsNat nat) (base_at : ℕ → ℕ) (before : List
               λ g fits named.
                   let r : (v j : ℕ) × IsClaimed cells proto port v j g = live.claims proto g port fits named in
                   let one : held ≡ r.2.held = same_Some _ _ (sym at ∙ r.2.there) in
-                  let claims : record { incarnation = below.0; inside = inside } ≡ (let c : Claim = record { incarnation = r.1; inside = g } in c) = same_Some _ _ (sym below.2 ∙ ap (λ (h : Held). claim_of h.value.0) one ∙ r.2.claim) in
+                  let claims : record { incarnation = below.0; inside = inside }
+                  ≡ (let c : Claim = record { incarnation = r.1; inside = g } in c) =
+                  same_Some _ _ (sym below.2 ∙ ap (λ (h : Held). claim_of h.value.0) one ∙ r.2.claim) in
                   none (ap (flow_at cells proto) (ap (λ (c : Claim). c.inside) claims) ∙ named),
             ),
       )
@@ -450,23 +500,27 @@ module _ (nat : Nat) (is_nat : IsNat nat) (base_at : ℕ → ℕ) (before : List
 
       found : (held : Held) → cells (flow_key proto inside) ≡ Some held → (b : Bool)
           → names port (flow_to_of held.value.0) ≡ b
-          → StandHolds nat base_at (before ++ e ∷ []) cells e.incarnation e.item (cond b (Ends None) (Flies (Sweep (Remove version) proto port base)))
+          → StandHolds nat base_at (before ++ e ∷ []) cells e.incarnation e.item
+          (cond b (Ends None) (Flies (Sweep (Remove version) proto port base)))
       found held is true w = tt
       found held is false w = loose (λ named. unnamed (flow_to_of held.value.0) w (sym (ap flow_in is) ∙ named))
 
       found_boxes : (c : List Flow) (b : Bool) → IsBoxed c cells
-          → Boxes nat c (Sweep (SweepFlow inside version) proto port base) cells None (decided_at (nat_machine nat) (cond b (Ends None) (Flies (Sweep (Remove version) proto port base))))
+          → Boxes nat c (Sweep (SweepFlow inside version) proto port base) cells None
+          (decided_at (nat_machine nat) (cond b (Ends None) (Flies (Sweep (Remove version) proto port base))))
       found_boxes c true boxed = boxed
       found_boxes c false boxed = boxed
 
       go : (cell : Option Held) → cells (flow_key proto inside) ≡ cell
           → Outcome nat base_at before e cells (after cells e) (Sweep (SweepFlow inside version) proto port base)
       go None is =
-          quiet (Sweep (SweepFlow inside version) proto port base) Absent asked (read_reply cells e _ None asked replied is) (read_effect cells e _ asked)
+          quiet (Sweep (SweepFlow inside version) proto port base) Absent asked
+          (read_reply cells e _ None asked replied is) (read_effect cells e _ asked)
           (loose (λ named. let none : flow_at cells proto inside ≡ None = ap flow_in is in cc))
           (λ c boxed. boxed)
       go (Some held) is =
-          quiet (Sweep (SweepFlow inside version) proto port base) (Found held.value held.version) asked (read_reply cells e _ (Some held) asked replied is) (read_effect cells e _ asked)
+          quiet (Sweep (SweepFlow inside version) proto port base) (Found held.value held.version) asked
+          (read_reply cells e _ (Some held) asked replied is) (read_effect cells e _ asked)
           (found held is (names port (flow_to_of held.value.0)) refl)
           (λ c boxed. found_boxes c (names port (flow_to_of held.value.0)) boxed)
 
@@ -487,7 +541,9 @@ module _ (nat : Nat) (is_nat : IsNat nat) (base_at : ℕ → ℕ) (before : List
       sole held at since j l v inside other running theirs =
           let loose = holds.1 held at since in
           let one : held ≡ theirs.claimed.held = same_Some _ _ (sym at ∙ theirs.claimed.there) in
-          let claims : record { incarnation = loose.0.1.0; inside = loose.0.0 } ≡ (let c : Claim = record { incarnation = j; inside = inside } in c) = same_Some _ _ (sym loose.0.1.2 ∙ ap (λ (h : Held). claim_of h.value.0) one ∙ theirs.claimed.claim) in
+          let claims : record { incarnation = loose.0.1.0; inside = loose.0.0 }
+          ≡ (let c : Claim = record { incarnation = j; inside = inside } in c) =
+          same_Some _ _ (sym loose.0.1.2 ∙ ap (λ (h : Held). claim_of h.value.0) one ∙ theirs.claimed.claim) in
           let same : loose.0.1.0 ≡ j = ap (λ (c : Claim). c.incarnation) claims in
           let less : loose.0.1.0 < base = loose.0.1.1 in
           let epoch : base ≡ base_at e.incarnation = ranged.1 in
@@ -504,9 +560,11 @@ module _ (nat : Nat) (is_nat : IsNat nat) (base_at : ℕ → ℕ) (before : List
           (freed_carries cells (after cells e) proto port gone ranged.0 base_at before e (sole held at since))
           tt
           (λ c boxed. boxed_same c cells (after cells e) (freed_flows cells (after cells e) proto port gone ranged.0) boxed)
-      found held at false differs = quiet (Sweep (Remove version) proto port base) e.reply asked refl (delete_other cells e _ version held asked at differs) tt (λ c boxed. boxed)
+      found held at false differs = quiet (Sweep (Remove version) proto port base) e.reply asked refl
+          (delete_other cells e _ version held asked at differs) tt (λ c boxed. boxed)
 
       go : (cell : Option Held) → cells key ≡ cell → Outcome nat base_at before e cells (after cells e)
           (Sweep (Remove version) proto port base)
-      go None is = quiet (Sweep (Remove version) proto port base) e.reply asked refl (delete_none cells e _ version asked is) tt (λ c boxed. boxed)
+      go None is = quiet (Sweep (Remove version) proto port base) e.reply asked refl
+          (delete_none cells e _ version asked is) tt (λ c boxed. boxed)
       go (Some held) is = found held is (held.version == version) refl

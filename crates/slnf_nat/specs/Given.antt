@@ -13,8 +13,8 @@ use Rattle.slnf_nat.specs.Flights.{NatFlight, Out, In, Sweep, first_of}
 use Rattle.slnf_nat.specs.Machine.{nat_machine}
 use Rattle.std.specs.List.{AllByRecursion}
 
--- The pool has a port. Each candidate is one of its pairs, in range, and one that the flow may have; and each pair that a flow may
--- have is a candidate of it.
+-- The pool has a port. Each candidate is one of its pairs, in range, and one that the flow may have; and each pair that
+-- a flow may have is a candidate of it.
 pub record IsNat (nat : Nat) : Type 0 where
   pub some : 0 < nat.ports
   pub candidate_has : (proto : Proto) (inside : Pair) (place : ℕ) → nat.has (nat.candidate proto inside place) ≡ true

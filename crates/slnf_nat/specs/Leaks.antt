@@ -24,8 +24,8 @@ abbrev pub IsUsed : (ℕ → ℕ → Stand NatFlight) → Proto → Type 0
 IsUsed begins proto = (i k j : ℕ) × (packet : Packet) × (begins i k ≡ Flies (Out Look j packet))
     × (packet.proto ≡ proto)
 
--- Each port of the pool, of each protocol that is used, has an item of a sweep that has ended after these entries, with this base or a
--- later one.
+-- Each port of the pool, of each protocol that is used, has an item of a sweep that has ended after these entries, with
+-- this base or a later one.
 abbrev pub HasSwept : Nat → (ℕ → ℕ → Stand NatFlight) → List Entry → ℕ → Type 0
 HasSwept nat begins es base =
     (proto : Proto) (port : Pair) → IsPair port → nat.has port ≡ true → IsUsed begins proto →
@@ -114,7 +114,8 @@ pub record IsThrough (era : ℕ → ℕ) (number : ℕ) (es : List Entry) (t : �
   pub front : AllByRecursion (λ f. era f.incarnation ≤ number) (take t es)
   pub back : AllByRecursion (λ f. number < era f.incarnation) (drop t es)
 
--- An incarnation's items are a sweep with this base of each port of the pool, for each protocol that is used, with numbers below this.
+-- An incarnation's items are a sweep with this base of each port of the pool, for each protocol that is used, with
+-- numbers below this.
 abbrev pub IsSweepOf : Nat → (ℕ → ℕ → Stand NatFlight) → ℕ → ℕ → ℕ → Type 0
 IsSweepOf nat begins items i base =
     (proto : Proto) (port : Pair) → IsPair port → nat.has port ≡ true → IsUsed begins proto → (k : ℕ) × (k < items)

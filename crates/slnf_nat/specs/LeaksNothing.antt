@@ -50,7 +50,8 @@ pub record LeaksNothing {G A : Type 0} (nat : Nat) (view : Cells → Cells) (s :
     (es : List Entry) : Type 0 where
   -- The entries of the epochs up to any one are a front of the list.
   pub through : (i : ℕ) → (t : ℕ) × IsThrough (era_of s.eras) (era_of s.eras i) es t
-  -- After the entries of an epoch whose sweep isn't stopped, each claim of an incarnation below its base has its flow's record, which names the claim's port.
+  -- After the entries of an epoch whose sweep isn't stopped, each claim of an incarnation below its base has its flow's
+  -- record, which names the claim's port.
   pub tidy : (i t : ℕ) → IsFinishedAt s es i → IsThrough (era_of s.eras) (era_of s.eras i) es t
       → IsTidy nat (view (map_after empty (take t es))) (own_base s.eras i)
   -- After such an epoch without instances, claims and live flows correspond one to one.

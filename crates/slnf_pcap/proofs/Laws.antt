@@ -24,11 +24,13 @@ pub with_front-nothing : (r : Result (List Captured) PcapError) → with_front [
 with_front-nothing (Ok packets) = refl
 with_front-nothing (Err error) = refl
 
-pub with_front-append : (a b : List Captured) (r : Result (List Captured) PcapError) → with_front (a ++ b) r ≡ with_front a (with_front b r)
+pub with_front-append : (a b : List Captured) (r : Result (List Captured) PcapError) →
+    with_front (a ++ b) r ≡ with_front a (with_front b r)
 with_front-append a b (Ok packets) = ap Ok (append_assoc a b packets)
 with_front-append a b (Err error) = refl
 
-one-front : (packet : Captured) (r : Result (List Captured) PcapError) → (r >>= (λ packets. Ok (packet ∷ packets))) ≡ with_front (packet ∷ []) r
+one-front : (packet : Captured) (r : Result (List Captured) PcapError) →
+    (r >>= (λ packets. Ok (packet ∷ packets))) ≡ with_front (packet ∷ []) r
 one-front packet (Ok packets) = refl
 one-front packet (Err error) = refl
 
@@ -45,7 +47,8 @@ records_from-too_many big at [] some = absurd (omega arith)
 records_from-too_many big at (byte ∷ bytes) some = refl
 
 -- the first record is no record
-pub records_from-broken : (big : Bool) (most at : ℕ) (bytes : List ℕ) (error : PcapError) → 0 < length bytes → record_at big at bytes ≡ Err error → records_from big (suc most) at bytes ≡ Err error
+pub records_from-broken : (big : Bool) (most at : ℕ) (bytes : List ℕ) (error : PcapError) →
+    0 < length bytes → record_at big at bytes ≡ Err error → records_from big (suc most) at bytes ≡ Err error
 unfolding records_from
 records_from-broken big most at [] error some broken = absurd (omega arith)
 records_from-broken big most at (byte ∷ bytes) error some broken =
@@ -53,8 +56,10 @@ records_from-broken big most at (byte ∷ bytes) error some broken =
     >>= (λ packets. Ok (packet ∷ packets)))) broken
 
 -- the first record, and those of the bytes behind it
-pub records_from-record : (big : Bool) (most at : ℕ) (bytes : List ℕ) (packet : Captured) → 0 < length bytes → record_at big at bytes ≡ Ok packet →
-    records_from big (suc most) at bytes ≡ with_front (packet ∷ []) (records_from big most (at + 16 + packet.len) (drop (16 + packet.len) bytes))
+pub records_from-record : (big : Bool) (most at : ℕ) (bytes : List ℕ) (packet : Captured) →
+    0 < length bytes → record_at big at bytes ≡ Ok packet →
+    records_from big (suc most) at bytes
+    ≡ with_front (packet ∷ []) (records_from big most (at + 16 + packet.len) (drop (16 + packet.len) bytes))
 unfolding records_from
 records_from-record big most at [] packet some whole = absurd (omega arith)
 records_from-record big most at (byte ∷ bytes) packet some whole =
@@ -68,35 +73,47 @@ unfolding capture_of
 capture_of-no_header bytes error broken = ap (λ r. r >>= records_of bytes) broken
 
 -- a file whose records are broken
-pub capture_of-no_records : (bytes : List ℕ) (header : Header) (error : PcapError) → header_of bytes ≡ Ok header → records_from header.style.big 1048576 24 (drop 24 bytes) ≡ Err error → capture_of bytes ≡ Err error
+pub capture_of-no_records : (bytes : List ℕ) (header : Header) (error : PcapError) → header_of bytes ≡ Ok header →
+    records_from header.style.big 1048576 24 (drop 24 bytes) ≡ Err error → capture_of bytes ≡ Err error
 unfolding capture_of
-capture_of-no_records bytes header error whole broken = ap (λ r. r >>= records_of bytes) whole ∙ ap (λ r. r >>= capture_in header) broken
+capture_of-no_records bytes header error whole broken =
+    ap (λ r. r >>= records_of bytes) whole ∙ ap (λ r. r >>= capture_in header) broken
 
 -- a file that is whole
-pub capture_of-whole : (bytes : List ℕ) (header : Header) (packets : List Captured) → header_of bytes ≡ Ok header → records_from header.style.big 1048576 24 (drop 24 bytes) ≡ Ok packets →
+pub capture_of-whole : (bytes : List ℕ) (header : Header) (packets : List Captured) →
+    header_of bytes ≡ Ok header → records_from header.style.big 1048576 24 (drop 24 bytes) ≡ Ok packets →
     capture_of bytes ≡ Ok (record { big = header.style.big; nanos = header.style.nanos; link = header.link; packets = packets })
 unfolding capture_of
-capture_of-whole bytes header packets whole records = ap (λ r. r >>= records_of bytes) whole ∙ ap (λ r. r >>= capture_in header) records
+capture_of-whole bytes header packets whole records =
+    ap (λ r. r >>= records_of bytes) whole ∙ ap (λ r. r >>= capture_in header) records
 
 -- bytes behind a field don't change it
-pub field-front : (big : Bool) (count at : ℕ) (bytes rest : List ℕ) → at + count ≤ length bytes → field big count at (bytes ++ rest) ≡ field big count at bytes
+pub field-front : (big : Bool) (count at : ℕ) (bytes rest : List ℕ) →
+    at + count ≤ length bytes → field big count at (bytes ++ rest) ≡ field big count at bytes
 field-front true count at bytes rest h =
-    ap (big_number count) (drop-append-le at bytes rest (omega arith)) ∙ big_from-append count (drop at bytes) rest (omega (arith, length-drop at bytes))
+    ap (big_number count) (drop-append-le at bytes rest (omega arith))
+    ∙ big_from-append count (drop at bytes) rest (omega (arith, length-drop at bytes))
 field-front false count at bytes rest h =
-    ap (little_number count) (drop-append-le at bytes rest (omega arith)) ∙ little_from-append count (drop at bytes) rest (omega (arith, length-drop at bytes))
+    ap (little_number count) (drop-append-le at bytes rest (omega arith))
+    ∙ little_from-append count (drop at bytes) rest (omega (arith, length-drop at bytes))
 
-header_in-front : (style : Option Style) (bytes rest : List ℕ) → 24 ≤ length bytes → header_in style (bytes ++ rest) ≡ header_in style bytes
+header_in-front : (style : Option Style) (bytes rest : List ℕ) →
+    24 ≤ length bytes → header_in style (bytes ++ rest) ≡ header_in style bytes
 header_in-front None bytes rest h = refl
 header_in-front (Some style) bytes rest h =
     let major = field-front style.big 2 4 bytes rest (omega arith) in
     let minor = field-front style.big 2 6 bytes rest (omega arith) in
     let link = field-front style.big 4 20 bytes rest (omega arith) in
-    ap (λ n. cond ((n == 2) && (field style.big 2 6 (bytes ++ rest) == 4)) (with_link style (link_of (field style.big 4 20 (bytes ++ rest)))) (Err BadVersion)) major
-    ∙ ap (λ n. cond ((field style.big 2 4 bytes == 2) && (n == 4)) (with_link style (link_of (field style.big 4 20 (bytes ++ rest)))) (Err BadVersion)) minor
-    ∙ ap (λ n. cond ((field style.big 2 4 bytes == 2) && (field style.big 2 6 bytes == 4)) (with_link style (link_of n)) (Err BadVersion)) link
+    ap (λ n. cond ((n == 2) && (field style.big 2 6 (bytes ++ rest) == 4))
+    (with_link style (link_of (field style.big 4 20 (bytes ++ rest)))) (Err BadVersion)) major
+    ∙ ap (λ n. cond ((field style.big 2 4 bytes == 2) && (n == 4))
+    (with_link style (link_of (field style.big 4 20 (bytes ++ rest)))) (Err BadVersion)) minor
+    ∙ ap (λ n. cond ((field style.big 2 4 bytes == 2) && (field style.big 2 6 bytes == 4)) (with_link style (link_of n))
+    (Err BadVersion)) link
 
 header_of-long : (bytes : List ℕ) → 24 ≤ length bytes → header_of bytes ≡ header_in (style_of (big_number 4 bytes)) bytes
-header_of-long bytes h = ap (λ b. cond b (Err ShortHeader) (header_in (style_of (big_number 4 bytes)) bytes)) (le-ltb (length bytes) 24 h)
+header_of-long bytes h =
+    ap (λ b. cond b (Err ShortHeader) (header_in (style_of (big_number 4 bytes)) bytes)) (le-ltb (length bytes) 24 h)
 
 -- bytes behind a header don't change it
 pub header_of-front : (bytes rest : List ℕ) → 24 ≤ length bytes → header_of (bytes ++ rest) ≡ header_of bytes
@@ -107,7 +124,8 @@ header_of-front bytes rest h =
     ∙ sym (header_of-long bytes h)
 
 -- a whole header, and its captured bytes
-pub record_at-written : (big : Bool) (at : ℕ) (head body rest : List ℕ) → length head ≡ 16 → field big 4 8 head ≡ length body → length body ≤ 262144 →
+pub record_at-written : (big : Bool) (at : ℕ) (head body rest : List ℕ) →
+    length head ≡ 16 → field big 4 8 head ≡ length body → length body ≤ 262144 →
     record_at big at (head ++ (body ++ rest)) ≡ Ok (record { at = at; len = length body })
 record_at-written big at head body rest size says short =
     let bytes : List ℕ = head ++ (body ++ rest) in
@@ -116,7 +134,8 @@ record_at-written big at head body rest size says short =
     let len : field big 4 8 bytes ≡ length body = field-front big 4 8 head (body ++ rest) (omega arith) ∙ says in
     ap (λ b. cond b (Err (TornRecord at)) (record_in at bytes (field big 4 8 bytes))) (le-ltb (length bytes) 16 (omega arith))
     ∙ ap (λ n. record_in at bytes n) len
-    ∙ ap (λ b. cond b (Err (OverSnap at)) (cond (nat_lt (length bytes - 16) (length body)) (Err (TornRecord at)) (Ok packet))) (le-ltb 262144 (length body) short)
+    ∙ ap (λ b. cond b (Err (OverSnap at)) (cond (nat_lt (length bytes - 16) (length body))
+    (Err (TornRecord at)) (Ok packet))) (le-ltb 262144 (length body) short)
     ∙ ap (λ b. cond b (Err (TornRecord at)) (Ok packet)) (le-ltb (length bytes - 16) (length body) (omega arith))
 
 -- what follows it

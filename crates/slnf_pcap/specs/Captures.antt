@@ -9,7 +9,8 @@ use Rattle.slnf_pcap.specs.Records.{records_from, ◌>>=◌}
 
 -- what the header and the records say
 abbrev pub capture_in : Header → List Captured → Result Capture PcapError
-capture_in header packets = Ok (record { big = header.style.big; nanos = header.style.nanos; link = header.link; packets = packets })
+capture_in header packets =
+    Ok (record { big = header.style.big; nanos = header.style.nanos; link = header.link; packets = packets })
 
 -- the records from place 24 on, of which there are at most 1,048,576
 abbrev pub records_of : List ℕ → Header → Result Capture PcapError

@@ -24,14 +24,20 @@ instance_fits : (ms : Members) (i : InstancePlan) → instance_rows ms ≡ Ok i 
 unfolding instance_rows
 instance_fits ms i e =
     let made : ℕ → Option ℕ → Option ℕ → InstancePlan = λ lane quota stop. record { lane = lane; quota = quota; stop = stop } in
-    let a = bind_ok (required (codes "lane") (from_to 0 31) ms) (λ lane. optional (codes "quota") (from_to 0 1048576) ms >>= λ quota. optional (codes "stop") (from_to 0 (2 ^ 40)) ms >>= λ stop. Ok (made lane quota stop)) i e in
-    let b = bind_ok (optional (codes "quota") (from_to 0 1048576) ms) (λ quota. optional (codes "stop") (from_to 0 (2 ^ 40)) ms >>= λ stop. Ok (made a.0 quota stop)) i a.2 in
+    let a = bind_ok (required (codes "lane") (from_to 0 31) ms) (λ lane. optional (codes "quota") (from_to 0 1048576) ms
+    >>= λ quota. optional (codes "stop") (from_to 0 (2 ^ 40)) ms >>= λ stop. Ok (made lane quota stop)) i e in
+    let b = bind_ok (optional (codes "quota") (from_to 0 1048576) ms)
+    (λ quota. optional (codes "stop") (from_to 0 (2 ^ 40)) ms >>= λ stop. Ok (made a.0 quota stop)) i a.2 in
     let d = bind_ok (optional (codes "stop") (from_to 0 (2 ^ 40)) ms) (λ stop. Ok (made a.0 b.0 stop)) i b.2 in
     let same : made a.0 b.0 d.0 ≡ i = ok_is _ _ d.2 in
-    let lane = demanded_reads (λ n. nat_le n 31) MissingKey (codes "lane") (from_to 0 31) ms a.0 (most_reads OutOfRange 0 31 32 (omega arith)) a.1 in
-    let quota = optional_reads (λ n. nat_le n 1048576) (codes "quota") (from_to 0 1048576) ms b.0 (most_reads OutOfRange 0 1048576 1048577 (omega arith)) b.1 in
-    let stop = optional_reads (λ n. nat_le n (2 ^ 40)) (codes "stop") (from_to 0 (2 ^ 40)) ms d.0 (most_reads OutOfRange 0 (2 ^ 40) (2 ^ 40 + 1) (omega arith)) d.1 in
-    subst (λ j. is_instance j ≡ true) same (and_from (nat_le a.0 31 && is_at_most 1048576 b.0) (is_at_most (2 ^ 40) d.0) (and_from (nat_le a.0 31) (is_at_most 1048576 b.0) lane quota) stop)
+    let lane = demanded_reads (λ n. nat_le n 31) MissingKey
+    (codes "lane") (from_to 0 31) ms a.0 (most_reads OutOfRange 0 31 32 (omega arith)) a.1 in
+    let quota = optional_reads (λ n. nat_le n 1048576)
+    (codes "quota") (from_to 0 1048576) ms b.0 (most_reads OutOfRange 0 1048576 1048577 (omega arith)) b.1 in
+    let stop = optional_reads (λ n. nat_le n (2 ^ 40)) (codes "stop")
+    (from_to 0 (2 ^ 40)) ms d.0 (most_reads OutOfRange 0 (2 ^ 40) (2 ^ 40 + 1) (omega arith)) d.1 in
+    subst (λ j. is_instance j ≡ true) same (and_from (nat_le a.0 31 && is_at_most 1048576 b.0)
+    (is_at_most (2 ^ 40) d.0) (and_from (nat_le a.0 31) (is_at_most 1048576 b.0) lane quota) stop)
 
 free_ok : (b : Bool) (i j : InstancePlan) → cond b (under (codes "lane") (refuse LaneTwice)) (Ok i) ≡ Ok j → (b ≡ false) × (i ≡ j)
 free_ok true i j e = absurd cc
@@ -53,23 +59,29 @@ instance_next earlier d i e =
 eqb_flip : (a b : ℕ) → eqb a b ≡ false → eqb b a ≡ false
 eqb_flip a b e = ne_eqb b a (λ s. eqb-false a b e (sym s))
 
-lanes_last : (es : List InstancePlan) (n : ℕ) (i : InstancePlan) → list_any (λ m. m == n) (map (λ e. e.lane) es) ≡ false → eqb i.lane n ≡ false → list_any (λ m. m == n) (map (λ e. e.lane) (es ++ i ∷ [])) ≡ false
+lanes_last : (es : List InstancePlan) (n : ℕ) (i : InstancePlan) → list_any (λ m. m == n) (map (λ e. e.lane) es) ≡ false
+    → eqb i.lane n ≡ false → list_any (λ m. m == n) (map (λ e. e.lane) (es ++ i ∷ [])) ≡ false
 lanes_last [] n i none here = rw here refl
 lanes_last (e ∷ es) n i none here =
     let p = or_parts (eqb e.lane n) (list_any (λ m. m == n) (map (λ e. e.lane) es)) none in
     rw (p.0, lanes_last es n i p.1 here) refl
 
-distinct_last : (es : List InstancePlan) (i : InstancePlan) → are_distinct (map (λ e. e.lane) es) ≡ true → list_any (λ e. e.lane == i.lane) es ≡ false → are_distinct (map (λ e. e.lane) (es ++ i ∷ [])) ≡ true
+distinct_last : (es : List InstancePlan) (i : InstancePlan) → are_distinct (map (λ e. e.lane) es) ≡ true
+    → list_any (λ e. e.lane == i.lane) es ≡ false → are_distinct (map (λ e. e.lane) (es ++ i ∷ [])) ≡ true
 distinct_last [] i apart free = refl
 distinct_last (e ∷ es) i apart free =
     let p = and_parts (not (list_any (λ m. m == e.lane) (map (λ e. e.lane) es))) (are_distinct (map (λ e. e.lane) es)) apart in
     let q = or_parts (eqb e.lane i.lane) (list_any (λ e. e.lane == i.lane) es) free in
     rw (lanes_last es e.lane i (not-true _ p.0) (eqb_flip e.lane i.lane q.0), distinct_last es i p.1 q.1) refl
 
-elements_apart : (earlier : List InstancePlan) (ds : Items) (xs : List InstancePlan) → are_distinct (map (λ e. e.lane) earlier) ≡ true → elements instance_table earlier ds ≡ Ok xs → are_distinct (map (λ e. e.lane) xs) ≡ true
-elements_apart earlier no_items xs apart e = subst (λ ys. are_distinct (map (λ (e : InstancePlan). e.lane) ys) ≡ true) (ok_is earlier xs e) apart
+elements_apart : (earlier : List InstancePlan) (ds : Items) (xs : List InstancePlan)
+    → are_distinct (map (λ e. e.lane) earlier) ≡ true
+    → elements instance_table earlier ds ≡ Ok xs → are_distinct (map (λ e. e.lane) xs) ≡ true
+elements_apart earlier no_items xs apart e =
+    subst (λ ys. are_distinct (map (λ (e : InstancePlan). e.lane) ys) ≡ true) (ok_is earlier xs e) apart
 elements_apart earlier (item d ds) xs apart e =
-    let a = bind_ok (under (decimal (length earlier)) (instance_table earlier d)) (λ x. elements instance_table (earlier ++ x ∷ []) ds) xs e in
+    let a = bind_ok (under (decimal (length earlier)) (instance_table earlier d))
+    (λ x. elements instance_table (earlier ++ x ∷ []) ds) xs e in
     let here = instance_next earlier d a.0 (under_ok (decimal (length earlier)) (instance_table earlier d) a.0 a.1) in
     elements_apart (earlier ++ a.0 ∷ []) ds xs (distinct_last earlier a.0 apart here.free) a.2
 
@@ -110,7 +122,8 @@ length-places : (n : ℕ) → length (places n) ≡ n
 length-places zero = refl
 length-places (suc n) = omega (arith, length-append (places n) (n ∷ []), length-places n)
 
-below_last : (xs : List ℕ) (x limit : ℕ) → list_all (λ n. nat_lt n limit) xs ≡ true → x < limit → list_all (λ n. nat_lt n limit) (xs ++ x ∷ []) ≡ true
+below_last : (xs : List ℕ) (x limit : ℕ) → list_all (λ n. nat_lt n limit) xs ≡ true
+    → x < limit → list_all (λ n. nat_lt n limit) (xs ++ x ∷ []) ≡ true
 below_last [] x limit all here = rw (lt-ltb x limit here) refl
 below_last (y ∷ ys) x limit all here =
     let p = and_parts (ltb y limit) (list_all (λ n. nat_lt n limit) ys) all in
@@ -120,18 +133,26 @@ places_below : (n limit : ℕ) → n ≤ limit → list_all (λ n. nat_lt n limi
 places_below zero limit h = refl
 places_below (suc n) limit h = below_last (places n) n limit (places_below n limit (omega arith)) (omega arith)
 
-pub active_fits : (kind : FunctionKind) (backends : ℕ) (ms : Members) (xs : List ℕ) → backends_fit kind backends → active_row kind backends ms ≡ Ok xs → places_fit kind backends xs ≡ true
+pub active_fits : (kind : FunctionKind) (backends : ℕ) (ms : Members) (xs : List ℕ)
+    → backends_fit kind backends → active_row kind backends ms ≡ Ok xs → places_fit kind backends xs ≡ true
 unfolding active_row
 active_fits kinds.Nat backends ms xs h e = rw (← ok_is [] xs e) refl
 active_fits kinds.Firewall backends ms xs h e = rw (← ok_is [] xs e) refl
 active_fits kinds.Balancer backends ms xs h e =
     let element = number OutOfRange 0 backends in
-    let all : places_fit kinds.Balancer backends (places backends) ≡ true = rw (length-places backends, le-leb 1 backends h.0, le-leb backends 64 h.1, places_below backends backends (omega arith)) refl in
-    defaulted_reads (places_fit kinds.Balancer backends) (places backends) (codes "active") (list_of (one_to NoBackend 64) element) ms xs
+    let all : places_fit kinds.Balancer backends (places backends) ≡ true = rw (
+      length-places backends,
+      le-leb 1 backends h.0,
+      le-leb backends 64 h.1,
+      places_below backends backends (omega arith),
+    ) refl in
+    defaulted_reads (places_fit kinds.Balancer backends)
+    (places backends) (codes "active") (list_of (one_to NoBackend 64) element) ms xs
     (λ d ys r.
     let some = list_some (one_to NoBackend 64) (λ _. element) NoBackend d ys refl r in
     let few = list_most (one_to NoBackend 64) (λ _. element) 64 d ys refl r in
-    let fit = list_reads (λ n. nat_lt n backends) (one_to NoBackend 64) (λ _. element) d ys (λ _. below_reads OutOfRange 0 backends) r in
+    let fit = list_reads (λ n. nat_lt n backends) (one_to NoBackend 64)
+    (λ _. element) d ys (λ _. below_reads OutOfRange 0 backends) r in
     rw (le-leb 1 (length ys) some, le-leb (length ys) 64 few, fit) refl)
     all e
 
@@ -153,16 +174,20 @@ stop_count-le false = omega arith
 pub sweep_row_fits : (kind : FunctionKind) (ms : Members) (s : SweepPlan) → sweep_row kind ms ≡ Ok s → sweep_fits kind s ≡ true
 unfolding sweep_row
 sweep_row_fits kinds.Nat ms s e =
-    let a = bind_ok (defaulted false (codes "sweep") truth ms) (λ sweep. optional (codes "sweep_stop") (number OutOfRange 0 (stop_count sweep)) ms >>= λ stop. Ok (sweep_of sweep stop)) s e in
-    let b = bind_ok (optional (codes "sweep_stop") (number OutOfRange 0 (stop_count a.0)) ms) (λ stop. Ok (sweep_of a.0 stop)) s a.2 in
-    let stop = optional_reads (λ n. nat_le n (2 ^ 40)) (codes "sweep_stop") (number OutOfRange 0 (stop_count a.0)) ms b.0 (most_reads OutOfRange 0 (2 ^ 40) (stop_count a.0) (stop_count-le a.0)) b.1 in
+    let a = bind_ok (defaulted false (codes "sweep") truth ms) (λ sweep. optional (codes "sweep_stop")
+    (number OutOfRange 0 (stop_count sweep)) ms >>= λ stop. Ok (sweep_of sweep stop)) s e in
+    let b = bind_ok (optional (codes "sweep_stop") (number OutOfRange 0 (stop_count a.0)) ms)
+    (λ stop. Ok (sweep_of a.0 stop)) s a.2 in
+    let stop = optional_reads (λ n. nat_le n (2 ^ 40)) (codes "sweep_stop") (number OutOfRange 0 (stop_count a.0))
+    ms b.0 (most_reads OutOfRange 0 (2 ^ 40) (stop_count a.0) (stop_count-le a.0)) b.1 in
     subst (λ t. is_sweep t ≡ true) (ok_is (sweep_of a.0 b.0) s b.2) (sweep_of_fits a.0 b.0 stop)
 sweep_row_fits kinds.Firewall ms s e = rw (← ok_is No s e) refl
 sweep_row_fits kinds.Balancer ms s e = rw (← ok_is No s e) refl
 
 -- ---- the schedule
 
-pub schedule_fits : (actors : ℕ) (ms : Members) (xs : List ℕ) → schedule_row actors ms ≡ Ok xs → list_all (λ n. nat_lt n actors) xs ≡ true
+pub schedule_fits : (actors : ℕ) (ms : Members) (xs : List ℕ)
+    → schedule_row actors ms ≡ Ok xs → list_all (λ n. nat_lt n actors) xs ≡ true
 unfolding schedule_row
 schedule_fits actors ms xs e =
     let element = number ScheduleActor 0 actors in
@@ -178,13 +203,18 @@ pub record IsEpoch (kind : FunctionKind) (backends : ℕ) (e : Epoch) : Type 0 w
   pub sweep : sweep_fits kind e.sweep ≡ true
   pub actors : has_actors e ≡ true
 
-rows_keep : (kind : FunctionKind) (backends : ℕ) (ms : Members) (e : Epoch) → backends_fit kind backends → epoch_rows kind backends ms ≡ Ok e → IsEpoch kind backends e
+rows_keep : (kind : FunctionKind) (backends : ℕ) (ms : Members) (e : Epoch)
+    → backends_fit kind backends → epoch_rows kind backends ms ≡ Ok e → IsEpoch kind backends e
 unfolding epoch_rows
 rows_keep kind backends ms epoch h e =
-    let made : List InstancePlan → List ℕ → SweepPlan → List ℕ → Epoch = λ xs ys s ts. record { instances = xs; active = ys; sweep = s; schedule = ts } in
-    let a = bind_ok (instances_row ms) (λ xs. active_row kind backends ms >>= λ ys. sweep_row kind ms >>= λ s. schedule_row (length xs + sweep_count s) ms >>= λ ts. Ok (made xs ys s ts)) epoch e in
-    let b = bind_ok (active_row kind backends ms) (λ ys. sweep_row kind ms >>= λ s. schedule_row (length a.0 + sweep_count s) ms >>= λ ts. Ok (made a.0 ys s ts)) epoch a.2 in
-    let c = bind_ok (sweep_row kind ms) (λ s. schedule_row (length a.0 + sweep_count s) ms >>= λ ts. Ok (made a.0 b.0 s ts)) epoch b.2 in
+    let made : List InstancePlan → List ℕ → SweepPlan
+    → List ℕ → Epoch = λ xs ys s ts. record { instances = xs; active = ys; sweep = s; schedule = ts } in
+    let a = bind_ok (instances_row ms) (λ xs. active_row kind backends ms >>= λ ys. sweep_row kind ms
+    >>= λ s. schedule_row (length xs + sweep_count s) ms >>= λ ts. Ok (made xs ys s ts)) epoch e in
+    let b = bind_ok (active_row kind backends ms) (λ ys. sweep_row kind ms
+    >>= λ s. schedule_row (length a.0 + sweep_count s) ms >>= λ ts. Ok (made a.0 ys s ts)) epoch a.2 in
+    let c = bind_ok (sweep_row kind ms)
+    (λ s. schedule_row (length a.0 + sweep_count s) ms >>= λ ts. Ok (made a.0 b.0 s ts)) epoch b.2 in
     let d = bind_ok (schedule_row (length a.0 + sweep_count c.0) ms) (λ ts. Ok (made a.0 b.0 c.0 ts)) epoch c.2 in
     let kept = instances_keep ms a.0 a.1 in
     subst (λ x. IsEpoch kind backends x) (ok_is (made a.0 b.0 c.0 d.0) epoch d.2)
@@ -196,7 +226,8 @@ rows_keep kind backends ms epoch h e =
       actors = schedule_fits (length a.0 + sweep_count c.0) ms d.0 d.1;
     })
 
-pub epoch_keeps : (kind : FunctionKind) (backends : ℕ) (d : Data) (e : Epoch) → backends_fit kind backends → epoch_table kind backends d ≡ Ok e → IsEpoch kind backends e
+pub epoch_keeps : (kind : FunctionKind) (backends : ℕ) (d : Data) (e : Epoch)
+    → backends_fit kind backends → epoch_table kind backends d ≡ Ok e → IsEpoch kind backends e
 unfolding epoch_table
 epoch_keeps kind backends d epoch h e =
     let rows = table_ok (epoch_keys kind) (epoch_rows kind backends) d epoch e in

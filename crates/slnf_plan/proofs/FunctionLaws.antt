@@ -74,16 +74,37 @@ rule_fits ms r e =
     let actions : Data → Result Bool Refusal = one_of ((codes "permit", true) ∷ (codes "deny", false) ∷ []) in
     let directions : Data → Result Bool Refusal = one_of ((codes "out", true) ∷ (codes "in", false) ∷ []) in
     let protos : List (List ℕ × ℕ) = (codes "tcp", 6) ∷ (codes "udp", 17) ∷ (codes "any", 0) ∷ [] in
-    let made : Bool → Bool → ℕ → PlainPrefix → PlainPrefix → ℕ × ℕ → PlainRule = λ permit outbound proto source dest range. record { permit = permit; outbound = outbound; proto = proto; source = source; dest = dest; low = range.0; high = range.1 } in
-    let a = bind_ok (required (codes "action") actions ms) (λ permit. required (codes "direction") directions ms >>= λ outbound. defaulted 0 (codes "proto") (one_of protos) ms >>= λ proto. defaulted anywhere (codes "source") prefix ms >>= λ source. defaulted anywhere (codes "dest") prefix ms >>= λ dest. defaulted (0, 65535) (codes "ports") (ports 0) ms >>= λ range. Ok (made permit outbound proto source dest range)) r e in
-    let b = bind_ok (required (codes "direction") directions ms) (λ outbound. defaulted 0 (codes "proto") (one_of protos) ms >>= λ proto. defaulted anywhere (codes "source") prefix ms >>= λ source. defaulted anywhere (codes "dest") prefix ms >>= λ dest. defaulted (0, 65535) (codes "ports") (ports 0) ms >>= λ range. Ok (made a.0 outbound proto source dest range)) r a.2 in
-    let c = bind_ok (defaulted 0 (codes "proto") (one_of protos) ms) (λ proto. defaulted anywhere (codes "source") prefix ms >>= λ source. defaulted anywhere (codes "dest") prefix ms >>= λ dest. defaulted (0, 65535) (codes "ports") (ports 0) ms >>= λ range. Ok (made a.0 b.0 proto source dest range)) r b.2 in
-    let d = bind_ok (defaulted anywhere (codes "source") prefix ms) (λ source. defaulted anywhere (codes "dest") prefix ms >>= λ dest. defaulted (0, 65535) (codes "ports") (ports 0) ms >>= λ range. Ok (made a.0 b.0 c.0 source dest range)) r c.2 in
-    let f = bind_ok (defaulted anywhere (codes "dest") prefix ms) (λ dest. defaulted (0, 65535) (codes "ports") (ports 0) ms >>= λ range. Ok (made a.0 b.0 c.0 d.0 dest range)) r d.2 in
+    let made : Bool → Bool → ℕ → PlainPrefix → PlainPrefix
+    → ℕ × ℕ → PlainRule = λ permit outbound proto source dest range. record {
+      permit = permit;
+      outbound = outbound;
+      proto = proto;
+      source = source;
+      dest = dest;
+      low = range.0;
+      high = range.1;
+    } in
+    let a = bind_ok (required (codes "action") actions ms) (λ permit. required (codes "direction") directions ms
+    >>= λ outbound. defaulted 0 (codes "proto") (one_of protos) ms >>= λ proto. defaulted anywhere
+    (codes "source") prefix ms >>= λ source. defaulted anywhere (codes "dest") prefix ms >>= λ dest. defaulted
+    (0, 65535) (codes "ports") (ports 0) ms >>= λ range. Ok (made permit outbound proto source dest range)) r e in
+    let b = bind_ok (required (codes "direction") directions ms)
+    (λ outbound. defaulted 0 (codes "proto") (one_of protos) ms >>= λ proto. defaulted anywhere
+    (codes "source") prefix ms >>= λ source. defaulted anywhere (codes "dest") prefix ms >>= λ dest. defaulted
+    (0, 65535) (codes "ports") (ports 0) ms >>= λ range. Ok (made a.0 outbound proto source dest range)) r a.2 in
+    let c = bind_ok (defaulted 0 (codes "proto") (one_of protos) ms) (λ proto. defaulted anywhere
+    (codes "source") prefix ms >>= λ source. defaulted anywhere (codes "dest") prefix ms >>= λ dest. defaulted
+    (0, 65535) (codes "ports") (ports 0) ms >>= λ range. Ok (made a.0 b.0 proto source dest range)) r b.2 in
+    let d = bind_ok (defaulted anywhere (codes "source") prefix ms)
+    (λ source. defaulted anywhere (codes "dest") prefix ms >>= λ dest. defaulted (0, 65535) (codes "ports")
+    (ports 0) ms >>= λ range. Ok (made a.0 b.0 c.0 source dest range)) r c.2 in
+    let f = bind_ok (defaulted anywhere (codes "dest") prefix ms) (λ dest.
+    defaulted (0, 65535) (codes "ports") (ports 0) ms >>= λ range. Ok (made a.0 b.0 c.0 d.0 dest range)) r d.2 in
     let g = bind_ok (defaulted (0, 65535) (codes "ports") (ports 0) ms) (λ range. Ok (made a.0 b.0 c.0 d.0 f.0 range)) r f.2 in
     let proto = defaulted_reads is_proto 0 (codes "proto") (one_of protos) ms c.0 (words_read is_proto protos refl) refl c.1 in
     let range = defaulted_reads ordered (0, 65535) (codes "ports") (ports 0) ms g.0 (ports_read 0) refl g.1 in
-    subst (λ x. is_plain_rule x ≡ true) (ok_is (made a.0 b.0 c.0 d.0 f.0 g.0) r g.2) (and_from (is_proto c.0) (ordered g.0) proto range)
+    subst (λ x. is_plain_rule x ≡ true) (ok_is (made a.0 b.0 c.0 d.0 f.0 g.0) r g.2)
+    (and_from (is_proto c.0) (ordered g.0) proto range)
 
 rule_reads : Reads is_plain_rule rule_table
 unfolding rule_table
@@ -97,7 +118,8 @@ rule_reads d r e =
 abbrev pub fits_plain : PlainFunction → Bool
 fits_plain (nat pool) = true
 fits_plain (firewall inside rules) = nat_le (length rules) 256 && list_all is_plain_rule rules
-fits_plain (balancer service) = has_port service.front && nat_le 1 (length service.backends) && nat_le (length service.backends) 64 && list_all has_port service.backends
+fits_plain (balancer service) = has_port service.front
+    && nat_le 1 (length service.backends) && nat_le (length service.backends) 64 && list_all has_port service.backends
 
 list_all-plain_rule : (rules : List Rule) → list_all is_plain_rule (map plain_rule rules) ≡ list_all is_rule rules
 list_all-plain_rule [] = refl
@@ -118,17 +140,20 @@ kind_of (nat pool) = kinds.Nat
 kind_of (firewall inside rules) = kinds.Firewall
 kind_of (balancer service) = kinds.Balancer
 
-firewall_fits : (ms : Members) (f : PlainFunction) → firewall_rows ms ≡ Ok f → (fits_plain f ≡ true) × (kind_of f ≡ kinds.Firewall)
+firewall_fits : (ms : Members) (f : PlainFunction)
+    → firewall_rows ms ≡ Ok f → (fits_plain f ≡ true) × (kind_of f ≡ kinds.Firewall)
 unfolding firewall_rows
 firewall_fits ms f e =
     let prefix : Data → Result PlainPrefix Refusal = text BadPrefix prefix_of in
     let rules = list_of (at_most 256) rule_table in
-    let a = bind_ok (required (codes "inside") prefix ms) (λ inside. required (codes "rules") rules ms >>= λ rs. Ok (firewall inside rs)) f e in
+    let a = bind_ok (required (codes "inside") prefix ms)
+    (λ inside. required (codes "rules") rules ms >>= λ rs. Ok (firewall inside rs)) f e in
     let b = bind_ok (required (codes "rules") rules ms) (λ rs. Ok (firewall a.0 rs)) f a.2 in
     let d = demanded_ok MissingKey (codes "rules") rules ms b.0 b.1 in
     let few = list_most (at_most 256) (λ _. rule_table) 256 d.0 b.0 refl d.1 in
     let fit = list_reads is_plain_rule (at_most 256) (λ _. rule_table) d.0 b.0 (λ _. rule_reads) d.1 in
-    subst (λ g. (fits_plain g ≡ true) × (kind_of g ≡ kinds.Firewall)) (ok_is (firewall a.0 b.0) f b.2) (rw (le-leb (length b.0) 256 few, fit) refl, refl)
+    subst (λ g. (fits_plain g ≡ true) × (kind_of g ≡ kinds.Firewall)) (ok_is (firewall a.0 b.0) f b.2)
+    (rw (le-leb (length b.0) 256 few, fit) refl, refl)
 
 chosen_pair : (b : Bool) (p q : Pair) → cond b (Some p) None ≡ Some q → (b ≡ true) × (p ≡ q)
 chosen_pair true p q e = (refl, cc)
@@ -141,8 +166,10 @@ some_of (Some x) f y e = (x, e)
 pair_has_port : (s : List ℕ) (p : Pair) → pair_of s ≡ Some p → has_port p ≡ true
 unfolding pair_of
 pair_has_port s p e =
-    let a = some_of (address_at s) (λ a. option_and_then (λ p. cond (eqb (length p.1) 0 && nat_le 1 p.0) (Some (record { addr = a.0; port = p.0 })) None) (decimal_after 58 65535 a.1)) p e in
-    let b = some_of (decimal_after 58 65535 a.0.1) (λ p. cond (eqb (length p.1) 0 && nat_le 1 p.0) (Some (record { addr = a.0.0; port = p.0 })) None) p a.1 in
+    let a = some_of (address_at s) (λ a. option_and_then (λ p. cond (eqb (length p.1) 0 && nat_le 1 p.0)
+    (Some (record { addr = a.0; port = p.0 })) None) (decimal_after 58 65535 a.1)) p e in
+    let b = some_of (decimal_after 58 65535 a.0.1)
+    (λ p. cond (eqb (length p.1) 0 && nat_le 1 p.0) (Some (record { addr = a.0.0; port = p.0 })) None) p a.1 in
     let c = chosen_pair (eqb (length b.0.1) 0 && nat_le 1 b.0.0) (record { addr = a.0.0; port = b.0.0 }) p b.1 in
     let d = and_parts (eqb (length b.0.1) 0) (nat_le 1 b.0.0) c.0 in
     subst (λ q. has_port q ≡ true) c.1 d.1
@@ -153,9 +180,12 @@ service_fits ms s e =
     let pair : Data → Result Pair Refusal = text BadAddress pair_of in
     let pairs = list_of (one_to NoBackend 64) pair in
     let protos : Data → Result Proto Refusal = one_of ((codes "tcp", Tcp) ∷ (codes "udp", Udp) ∷ []) in
-    let made : Proto → Pair → List Pair → Service = λ proto front backends. record { proto = proto; front = front; backends = backends } in
-    let a = bind_ok (required (codes "proto") protos ms) (λ proto. required (codes "service") pair ms >>= λ front. required (codes "backends") pairs ms >>= λ backends. Ok (made proto front backends)) s e in
-    let b = bind_ok (required (codes "service") pair ms) (λ front. required (codes "backends") pairs ms >>= λ backends. Ok (made a.0 front backends)) s a.2 in
+    let made : Proto → Pair → List Pair
+    → Service = λ proto front backends. record { proto = proto; front = front; backends = backends } in
+    let a = bind_ok (required (codes "proto") protos ms) (λ proto. required (codes "service") pair ms
+    >>= λ front. required (codes "backends") pairs ms >>= λ backends. Ok (made proto front backends)) s e in
+    let b = bind_ok (required (codes "service") pair ms)
+    (λ front. required (codes "backends") pairs ms >>= λ backends. Ok (made a.0 front backends)) s a.2 in
     let c = bind_ok (required (codes "backends") pairs ms) (λ backends. Ok (made a.0 b.0 backends)) s b.2 in
     let reads : Reads has_port pair = text_reads has_port BadAddress pair_of pair_has_port in
     let front = demanded_reads has_port MissingKey (codes "service") pair ms b.0 reads b.1 in
@@ -163,7 +193,8 @@ service_fits ms s e =
     let some = list_some (one_to NoBackend 64) (λ _. pair) NoBackend d.0 c.0 refl d.1 in
     let few = list_most (one_to NoBackend 64) (λ _. pair) 64 d.0 c.0 refl d.1 in
     let fit = list_reads has_port (one_to NoBackend 64) (λ _. pair) d.0 c.0 (λ _. reads) d.1 in
-    subst (λ t. fits_plain (balancer t) ≡ true) (ok_is (made a.0 b.0 c.0) s c.2) (rw (front, le-leb 1 (length c.0) some, le-leb (length c.0) 64 few, fit) refl)
+    subst (λ t. fits_plain (balancer t) ≡ true) (ok_is (made a.0 b.0 c.0) s c.2)
+    (rw (front, le-leb 1 (length c.0) some, le-leb (length c.0) 64 few, fit) refl)
 
 -- a function that was read is the named one, and fits
 pub record IsFunction (kind : FunctionKind) (f : PlainFunction) : Type 0 where
@@ -184,13 +215,16 @@ function_keeps kinds.Balancer ms f e =
     let a = bind_ok (required (codes "balancer") balancer_table ms) (λ service. Ok (balancer service)) f e in
     let b = demanded_ok MissingKey (codes "balancer") balancer_table ms a.0 a.1 in
     let rows = table_ok balancer_keys balancer_rows b.0 a.0 b.1 in
-    subst (λ g. IsFunction kinds.Balancer g) (ok_is (balancer a.0) f a.2) (record { fits = service_fits rows.0 a.0 rows.1; named = refl })
+    subst (λ g. IsFunction kinds.Balancer g) (ok_is (balancer a.0) f a.2)
+    (record { fits = service_fits rows.0 a.0 rows.1; named = refl })
 
-pub fits_of : (kind : FunctionKind) (ms : Members) (f : FunctionPlan) → function_row kind ms ≡ Ok (plain_function f) → fits_function f ≡ true
+pub fits_of : (kind : FunctionKind) (ms : Members) (f : FunctionPlan)
+    → function_row kind ms ≡ Ok (plain_function f) → fits_function f ≡ true
 fits_of kind ms f e = sym (fits_plain_function f) ∙ (function_keeps kind ms (plain_function f) e).fits
 
 -- a balancer's backends are 1 to 64
-pub backends_of : (f : FunctionPlan) → fits_function f ≡ true → backends_fit (kind_of (plain_function f)) (backend_count (plain_function f))
+pub backends_of : (f : FunctionPlan) → fits_function f ≡ true
+    → backends_fit (kind_of (plain_function f)) (backend_count (plain_function f))
 backends_of (Nat pool) h = tt
 backends_of (Firewall inside rules) h = tt
 backends_of (Balancer service) h =

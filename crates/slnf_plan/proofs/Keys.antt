@@ -16,7 +16,8 @@ pub names-members_view : (es : List Entry) → names (members_view es) ≡ map s
 names-members_view [] = refl
 names-members_view (e ∷ es) = ap (λ ks. string_bytes e.0 ∷ ks) (names-members_view es)
 
-pub is_unlisted-map : (listed : List (Bor (List ℕ))) (key : List ℕ) → list_any (λ l. bytes_eq l key) (map (λ l. l.now) listed) ≡ list_any (λ l. bytes_eq l.now key) listed
+pub is_unlisted-map : (listed : List (Bor (List ℕ))) (key : List ℕ)
+    → list_any (λ l. bytes_eq l key) (map (λ l. l.now) listed) ≡ list_any (λ l. bytes_eq l.now key) listed
 is_unlisted-map [] key = refl
 is_unlisted-map (l ∷ ls) key = ap (λ b. bytes_eq l.now key || b) (is_unlisted-map ls key)
 
@@ -27,7 +28,8 @@ find-here p x xs h = rw h refl
 pub find-later : {A : Type 0} (p : A → Bool) (x : A) (xs : List A) → p x ≡ false → find p (x ∷ xs) ≡ find p xs
 find-later p x xs h = rw h refl
 
-pub fails_under : {A : Type 0} (step : List ℕ) (fault told : Fault) (read : Result A Refusal) → IsUnder step fault told → Fails fault read → Fails told (under step read)
+pub fails_under : {A : Type 0} (step : List ℕ) (fault told : Fault) (read : Result A Refusal)
+    → IsUnder step fault told → Fails fault read → Fails told (under step read)
 fails_under step faults.Memory told read goes fails = rw goes tt
 fails_under step (faults.Refused r) faults.Memory read goes fails = tt
 fails_under step (faults.Refused r) (faults.Refused s) read goes fails = rw (fails, goes) refl
@@ -38,19 +40,23 @@ Ref = Bor (List ℕ)
 abbrev texts : List Ref → List (List ℕ)
 texts listed = map (λ l. l.now) listed
 
-unlisted_is : (listed : List Ref) (key : List ℕ) (b : Bool) → list_any (λ l. bytes_eq l.now key) listed ≡ b → is_unlisted (texts listed) key ≡ not b
+unlisted_is : (listed : List Ref) (key : List ℕ) (b : Bool)
+    → list_any (λ l. bytes_eq l.now key) listed ≡ b → is_unlisted (texts listed) key ≡ not b
 unlisted_is listed key b h = ap not (is_unlisted-map listed key ∙ h)
 
 -- a key that is listed is passed over
-pub known_goes_on : (listed : List Ref) (key : String Global) (ks rest : List (String Global)) (found : Option (List ℕ)) → ks ≡ key ∷ rest → list_any (λ l. bytes_eq l.now (string_bytes key)) listed ≡ true
-    → find (is_unlisted (texts listed)) (map string_bytes ks) ≡ found → find (is_unlisted (texts listed)) (map string_bytes rest) ≡ found
+pub known_goes_on : (listed : List Ref) (key : String Global) (ks rest : List (String Global)) (found : Option (List ℕ))
+    → ks ≡ key ∷ rest → list_any (λ l. bytes_eq l.now (string_bytes key)) listed ≡ true
+    → find (is_unlisted (texts listed)) (map string_bytes ks) ≡ found
+    → find (is_unlisted (texts listed)) (map string_bytes rest) ≡ found
 known_goes_on listed key ks rest found e here so_far =
     let here' = unlisted_is listed (string_bytes key) true here in
     let one = rw e at so_far in
     sym (find-later (is_unlisted (texts listed)) (string_bytes key) (map string_bytes rest) here') ∙ one
 
 -- a key that isn't listed is the first one
-pub known_stops : (listed : List Ref) (key : String Global) (ks rest : List (String Global)) (found : Option (List ℕ)) → ks ≡ key ∷ rest → list_any (λ l. bytes_eq l.now (string_bytes key)) listed ≡ false
+pub known_stops : (listed : List Ref) (key : String Global) (ks rest : List (String Global)) (found : Option (List ℕ))
+    → ks ≡ key ∷ rest → list_any (λ l. bytes_eq l.now (string_bytes key)) listed ≡ false
     → find (is_unlisted (texts listed)) (map string_bytes ks) ≡ found → found ≡ Some (string_bytes key)
 known_stops listed key ks rest found e here so_far =
     let here' = unlisted_is listed (string_bytes key) false here in

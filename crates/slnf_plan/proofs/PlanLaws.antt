@@ -18,13 +18,17 @@ use Rattle.slnf_plan.proofs.EpochLaws.{epoch_keeps, places_fit, sweep_fits}
 use Rattle.slnf_plan.proofs.FunctionLaws.{function_keeps, fits_of, kind_of, backends_of}
 
 -- a number with a default, which are both in range
-pub defaulted_within : (default : ℕ) (key : List ℕ) (low end : ℕ) (ms : Members) (x : ℕ) → low ≤ default → default < end → defaulted default key (number OutOfRange low end) ms ≡ Ok x → (low ≤ x) × (x < end)
+pub defaulted_within : (default : ℕ) (key : List ℕ) (low end : ℕ) (ms : Members) (x : ℕ) → low ≤ default
+    → default < end → defaulted default key (number OutOfRange low end) ms ≡ Ok x → (low ≤ x) × (x < end)
 defaulted_within default key low end ms x l h e =
-    let a = defaulted_reads (λ n. leb low n) default key (number OutOfRange low end) ms x (λ d y r. le-leb low y (number_within OutOfRange low end d y r).0) (le-leb low default l) e in
-    let b = defaulted_reads (λ n. ltb n end) default key (number OutOfRange low end) ms x (λ d y r. lt-ltb y end (number_within OutOfRange low end d y r).1) (lt-ltb default end h) e in
+    let a = defaulted_reads (λ n. leb low n) default key (number OutOfRange low end) ms x
+    (λ d y r. le-leb low y (number_within OutOfRange low end d y r).0) (le-leb low default l) e in
+    let b = defaulted_reads (λ n. ltb n end) default key (number OutOfRange low end) ms x
+    (λ d y r. lt-ltb y end (number_within OutOfRange low end d y r).1) (lt-ltb default end h) e in
     (leb-true low x a, ltb-true x end b)
 
-has_places_is : (f : FunctionPlan) (e : Epoch) → has_places f e ≡ places_fit (kind_of (plain_function f)) (backend_count (plain_function f)) e.active
+has_places_is : (f : FunctionPlan) (e : Epoch)
+    → has_places f e ≡ places_fit (kind_of (plain_function f)) (backend_count (plain_function f)) e.active
 has_places_is (Nat pool) e = refl
 has_places_is (Firewall inside rules) e = refl
 has_places_is (Balancer service) e = refl
@@ -56,15 +60,18 @@ batch_within ms x e =
     let w = defaulted_within 1 (codes "batch") 1 33 ms x (omega arith) (omega arith) e in
     (w.0, omega (arith, w.1))
 
-pub epochs_keep : (kind : FunctionKind) (f : FunctionPlan) (ms : Members) (es : List Epoch) → function_row kind ms ≡ Ok (plain_function f)
+pub epochs_keep : (kind : FunctionKind) (f : FunctionPlan) (ms : Members) (es : List Epoch)
+    → function_row kind ms ≡ Ok (plain_function f)
     → epochs_row kind (backend_count (plain_function f)) ms ≡ Ok es → AreEpochs f es
 unfolding epochs_row
 epochs_keep kind f ms es e r =
     let n = backend_count (plain_function f) in
     let named = (function_keeps kind ms (plain_function f) e).named in
     let a = demanded_ok NoEpoch (codes "epoch") (list_of (one_to NoEpoch 1000) (epoch_table kind n)) ms es r in
-    let keeps = λ (d : Data) (x : Epoch) (read : epoch_table kind n d ≡ Ok x). epoch_keeps kind n d x (rw (← named) (backends_of f (fits_of kind ms f e))) read in
-    let each = λ (test : Epoch → Bool) (h : (d : Data) (x : Epoch) → epoch_table kind n d ≡ Ok x → test x ≡ true). list_reads test (one_to NoEpoch 1000) (λ _. epoch_table kind n) a.0 es (λ _. h) a.1 in
+    let keeps = λ (d : Data) (x : Epoch) (read : epoch_table kind n d ≡ Ok x).
+    epoch_keeps kind n d x (rw (← named) (backends_of f (fits_of kind ms f e))) read in
+    let each = λ (test : Epoch → Bool) (h : (d : Data) (x : Epoch) → epoch_table kind n d ≡ Ok x → test x ≡ true).
+    list_reads test (one_to NoEpoch 1000) (λ _. epoch_table kind n) a.0 es (λ _. h) a.1 in
     record {
       some = list_some (one_to NoEpoch 1000) (λ _. epoch_table kind n) NoEpoch a.0 es refl a.1;
       few = list_most (one_to NoEpoch 1000) (λ _. epoch_table kind n) 1000 a.0 es refl a.1;

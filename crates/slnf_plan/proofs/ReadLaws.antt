@@ -25,20 +25,24 @@ table_none bytes none =
       | inr other ↦ rw other refl
     ]
 
-pub bytes_plan : (bytes : List ℕ) (ms : Members) (p : PlainPlan) → IsUtf8 bytes → parse_document bytes ≡ Some ms → plan_of ms ≡ Ok p → plan_of_bytes bytes ≡ Ok p
+pub bytes_plan : (bytes : List ℕ) (ms : Members) (p : PlainPlan)
+    → IsUtf8 bytes → parse_document bytes ≡ Some ms → plan_of ms ≡ Ok p → plan_of_bytes bytes ≡ Ok p
 unfolding plan_of_bytes
 bytes_plan bytes ms p utf8 e read = ap plan_or_error (table_some bytes ms utf8 e) ∙ ap told read
 
-pub bytes_refused : (bytes : List ℕ) (ms : Members) (r : Refusal) → IsUtf8 bytes → parse_document bytes ≡ Some ms → plan_of ms ≡ Err r → plan_of_bytes bytes ≡ Err (error_of r)
+pub bytes_refused : (bytes : List ℕ) (ms : Members) (r : Refusal)
+    → IsUtf8 bytes → parse_document bytes ≡ Some ms → plan_of ms ≡ Err r → plan_of_bytes bytes ≡ Err (error_of r)
 unfolding plan_of_bytes
 bytes_refused bytes ms r utf8 e read = ap plan_or_error (table_some bytes ms utf8 e) ∙ ap told read
 
-pub bytes_not_toml : (bytes : List ℕ) → (IsUtf8 bytes → parse_document bytes ≡ None) → plan_of_bytes bytes ≡ Err (errors.NotToml [])
+pub bytes_not_toml : (bytes : List ℕ) → (IsUtf8 bytes → parse_document bytes ≡ None)
+    → plan_of_bytes bytes ≡ Err (errors.NotToml [])
 unfolding plan_of_bytes
 bytes_not_toml bytes none = ap plan_or_error (table_none bytes none)
 
 -- an error that names a rule is the first refusal
-pub refuses_at : (read : Result PlainPlan PlanError) (cause : Cause) (path : List ℕ) → read ≡ Err (error_at cause path) → Refuses read (error_at cause path)
+pub refuses_at : (read : Result PlainPlan PlanError) (cause : Cause) (path : List ℕ)
+    → read ≡ Err (error_at cause path) → Refuses read (error_at cause path)
 refuses_at read causes.MissingKey path e = e
 refuses_at read causes.UnknownKey path e = e
 refuses_at read causes.WrongType path e = e

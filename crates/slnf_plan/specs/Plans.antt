@@ -135,7 +135,8 @@ epoch_keys kind = codes "instances" ∷ own_keys kind ++ codes "schedule" ∷ []
 
 -- a balancer's active backends, by default all
 unfoldable pub active_row : FunctionKind → ℕ → Members → Result (List ℕ) Refusal
-active_row kinds.Balancer backends ms = defaulted (places backends) (codes "active") (list_of (one_to NoBackend 64) (number OutOfRange 0 backends)) ms
+active_row kinds.Balancer backends ms =
+    defaulted (places backends) (codes "active") (list_of (one_to NoBackend 64) (number OutOfRange 0 backends)) ms
 active_row kinds.Nat backends ms = Ok []
 active_row kinds.Firewall backends ms = Ok []
 
@@ -175,7 +176,8 @@ epoch_table kind backends = table (epoch_keys kind) (epoch_rows kind backends)
 -- ---- the whole plan
 
 abbrev pub plan_keys : List (List ℕ)
-plan_keys = codes "function" ∷ codes "shards" ∷ codes "batch" ∷ codes "nat" ∷ codes "firewall" ∷ codes "balancer" ∷ codes "epoch" ∷ []
+plan_keys = codes "function" ∷ codes "shards" ∷ codes "batch"
+    ∷ codes "nat" ∷ codes "firewall" ∷ codes "balancer" ∷ codes "epoch" ∷ []
 
 -- the table that is the function's own; the other functions' are unread
 unfoldable pub function_row : FunctionKind → Members → Result PlainFunction Refusal

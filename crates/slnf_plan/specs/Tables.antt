@@ -58,7 +58,8 @@ item_count (item d ds) = suc (item_count ds)
 -- The elements in order, each by what it and those before it are.
 abbrev pub elements : {A : Type 0} → (List A → Data → Result A Refusal) → List A → Items → Result (List A) Refusal
 elements element earlier no_items = Ok earlier
-elements element earlier (item d ds) = under (decimal (length earlier)) (element earlier d) >>= λ x. elements element (earlier ++ x ∷ []) ds
+elements element earlier (item d ds) =
+    under (decimal (length earlier)) (element earlier d) >>= λ x. elements element (earlier ++ x ∷ []) ds
 
 abbrev pub is_over : Option ℕ → ℕ → Bool
 is_over None count = false

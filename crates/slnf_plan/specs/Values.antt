@@ -21,7 +21,8 @@ whole d = of_kind (as_integer d) Ok
 
 -- two numbers in order, from least to 65535
 abbrev pub in_order : ℕ → ℤ → ℤ → Result (ℕ × ℕ) Refusal
-in_order least (pos low) (pos high) = if nat_le least low && nat_le low high && nat_le high 65535 then Ok (low, high) else refuse OutOfRange
+in_order least (pos low) (pos high) =
+    if nat_le least low && nat_le low high && nat_le high 65535 then Ok (low, high) else refuse OutOfRange
 in_order least _ _ = refuse OutOfRange
 
 -- a list of two numbers: another count is of another kind, and both are numbers before their range is tried

@@ -19,7 +19,8 @@ use Rattle.slnf_rewrite.proofs.Spans.{length-with_word}
 use Rattle.slnf_rewrite.proofs.Written.{Placed}
 use Rattle.slnf_rewrite.proofs.Checks.{IsSeal, header-verifies, transport-verifies}
 
-length-with_pair : (frame : List ℕ) (view : View) (address port : ℕ) (pair : Pair) → length (with_pair frame view address port pair) ≡ length frame
+length-with_pair : (frame : List ℕ) (view : View) (address port : ℕ) (pair : Pair)
+    → length (with_pair frame view address port pair) ≡ length frame
 length-with_pair frame view address port pair =
     let one = with_word frame address (pair.addr / 65536) in
     let two = with_word one (address + 2) (pair.addr % 65536) in
@@ -67,7 +68,8 @@ proto_fits : (proto : Proto) → proto_number proto < 2 ^ 16
 proto_fits Tcp = omega arith
 proto_fits Udp = omega arith
 
-seal-of : (proto : Proto) (check : ℕ) (changes : List (ℕ × ℕ)) → (proto ≡ Udp → check ≢ 0) → IsSeal (adjusted_over check changes) (transport_adjusted proto check changes)
+seal-of : (proto : Proto) (check : ℕ) (changes : List (ℕ × ℕ))
+    → (proto ≡ Udp → check ≢ 0) → IsSeal (adjusted_over check changes) (transport_adjusted proto check changes)
 seal-of Tcp check changes made = inl refl
 seal-of Udp check changes made =
     let adjusted = adjusted_over check changes in
@@ -77,22 +79,39 @@ seal-of Udp check changes made =
       | inr some ↦ inl (first ∙ rw (ne_eqb adjusted 0 some) refl)
     ]
 
-module _ (frame : List ℕ) (view : View) (small : All (λ byte. byte < 256) frame) (lies : LiesWithin frame view) (address port : ℕ) (places : IsSide view address port) (pair : Pair) (numbers : IsPair pair) where
+module _ (frame : List ℕ) (view : View) (small : All (λ byte. byte < 256) frame) (lies : LiesWithin frame view)
+    (address port : ℕ) (places : IsSide view address port) (pair : Pair) (numbers : IsPair pair) where
   placed : Placed (length frame) view.ip view.l4 places.0 address port (check_word view.packet.proto) (transport_check_place view)
   placed =
       let proto = view.packet.proto in
       let twice = check_word-twice proto in
       let within = check_word-within proto in
-      record { header = lies.header; two = places.1; address_at = places.2; port_at = places.3; place_at = omega arith; offset_past = check_word-past proto; inside = omega arith }
+      record {
+        header = lies.header;
+        two = places.1;
+        address_at = places.2;
+        port_at = places.3;
+        place_at = omega arith;
+        offset_past = check_word-past proto;
+        inside = omega arith;
+      }
 
   -- a header that verified verifies with the pair
   pub pair_header : Verifies (header_words frame view) → Verifies (header_words (with_pair frame view address port pair) view)
   pair_header verified =
-      header-verifies frame view.ip view.l4 places.0 address port (check_word view.packet.proto) (transport_check_place view) (pair.addr / 65536) (pair.addr % 65536) pair.port (header_check frame view address pair) (transport_check frame view address port pair) placed small (omega arith) (omega arith) (omega arith) (view.l4 - view.ip) (omega arith) (omega arith) refl verified
+      header-verifies frame view.ip view.l4 places.0 address port
+      (check_word view.packet.proto) (transport_check_place view) (pair.addr / 65536) (pair.addr % 65536) pair.port
+      (header_check frame view address pair) (transport_check frame view address port pair) placed small
+      (omega arith) (omega arith) (omega arith) (view.l4 - view.ip) (omega arith) (omega arith) refl verified
 
   -- a transport checksum that verified verifies with the pair
   pub pair_transport : HasCheck frame view → StaysVerified frame (with_pair frame view address port pair) view
   pair_transport made count covered count_fits verified =
       let proto = view.packet.proto in
       let within = check_word-within proto in
-      transport-verifies frame view.ip view.l4 places.0 address port (check_word proto) (transport_check_place view) (pair.addr / 65536) (pair.addr % 65536) pair.port (header_check frame view address pair) (transport_check frame view address port pair) placed small (omega arith) (omega arith) (omega arith) (view.ip + 20 - (view.ip + 12)) (view.l4 + count - view.l4) (proto_number proto) count (omega arith) (omega arith) (some_proto proto) (proto_fits proto) count_fits (seal-of proto (word_at frame (transport_check_place view)) (pair_changes frame address port pair) made) verified
+      transport-verifies frame view.ip view.l4 places.0 address port (check_word proto) (transport_check_place view)
+      (pair.addr / 65536) (pair.addr % 65536) pair.port (header_check frame view address pair)
+      (transport_check frame view address port pair) placed small (omega arith) (omega arith)
+      (omega arith) (view.ip + 20 - (view.ip + 12)) (view.l4 + count - view.l4) (proto_number proto) count
+      (omega arith) (omega arith) (some_proto proto) (proto_fits proto) count_fits (seal-of proto
+      (word_at frame (transport_check_place view)) (pair_changes frame address port pair) made) verified

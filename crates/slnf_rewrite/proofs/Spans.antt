@@ -19,7 +19,9 @@ part-set frame j n i byte =
     ap (take n) (drop-set-add j frame i byte) ∙ take-set n (drop j frame) i byte
 
 -- a word is written into a part
-pub words-inside : (frame : List ℕ) (j n k place word : ℕ) → place ≡ j + 2 * k → 2 * k + 2 ≤ n → place + 2 ≤ length frame → words_of (take n (drop j (with_word frame place word))) ≡ set (words_of (take n (drop j frame))) k word
+pub words-inside : (frame : List ℕ) (j n k place word : ℕ)
+    → place ≡ j + 2 * k → 2 * k + 2 ≤ n → place + 2 ≤ length frame
+    → words_of (take n (drop j (with_word frame place word))) ≡ set (words_of (take n (drop j frame))) k word
 words-inside frame j n k place word at fits inside =
     let part = take n (drop j frame) in
     let high = word / 256 in
@@ -35,27 +37,34 @@ words-inside frame j n k place word at fits inside =
     ∙ ap (λ (w : ℕ). set (words_of part) k w) whole
 
 -- a word is written before a part
-pub part-before : (frame : List ℕ) (j n place word : ℕ) → place + 2 ≤ j → take n (drop j (with_word frame place word)) ≡ take n (drop j frame)
+pub part-before : (frame : List ℕ) (j n place word : ℕ)
+    → place + 2 ≤ j → take n (drop j (with_word frame place word)) ≡ take n (drop j frame)
 part-before frame j n place word before =
-    ap (take n) (drop-set-lt j (set frame place (word / 256)) (place + 1) (word % 256) (omega arith) ∙ drop-set-lt j frame place (word / 256) (omega arith))
+    ap (take n) (drop-set-lt j (set frame place (word / 256)) (place + 1) (word % 256) (omega arith)
+    ∙ drop-set-lt j frame place (word / 256) (omega arith))
 
 -- a word is written behind a part
-pub part-behind : (frame : List ℕ) (j n place word : ℕ) → j + n ≤ place → take n (drop j (with_word frame place word)) ≡ take n (drop j frame)
+pub part-behind : (frame : List ℕ) (j n place word : ℕ)
+    → j + n ≤ place → take n (drop j (with_word frame place word)) ≡ take n (drop j frame)
 part-behind frame j n place word behind =
     let high = set frame place (word / 256) in
     sym (drop-take j n (set high (place + 1) (word % 256)))
-    ∙ ap (drop j) (take-set-le (j + n) high (place + 1) (word % 256) (omega arith) ∙ take-set-le (j + n) frame place (word / 256) behind)
+    ∙ ap (drop j) (take-set-le (j + n) high (place + 1) (word % 256) (omega arith)
+    ∙ take-set-le (j + n) frame place (word / 256) behind)
     ∙ drop-take j n frame
 
 -- a word of a part is the frame's word
-pub word-of_part : (frame : List ℕ) (j n k place : ℕ) → place ≡ j + 2 * k → 2 * k + 2 ≤ n → get_or (words_of (take n (drop j frame))) k 0 ≡ word_at frame place
+pub word-of_part : (frame : List ℕ) (j n k place : ℕ)
+    → place ≡ j + 2 * k → 2 * k + 2 ≤ n → get_or (words_of (take n (drop j frame))) k 0 ≡ word_at frame place
 word-of_part frame j n k place at fits =
     let part = take n (drop j frame) in
     let second : j + (2 * k + 1) ≡ place + 1 = omega arith in
     let high : get_or part (2 * k) 0 ≡ get_or frame place 0 =
-    get_or-take n (drop j frame) (2 * k) 0 (omega arith) ∙ get_or-drop j frame (2 * k) 0 ∙ ap (λ (i : ℕ). get_or frame i 0) (sym at) in
+    get_or-take n (drop j frame) (2 * k) 0 (omega arith)
+    ∙ get_or-drop j frame (2 * k) 0 ∙ ap (λ (i : ℕ). get_or frame i 0) (sym at) in
     let low : get_or part (2 * k + 1) 0 ≡ get_or frame (place + 1) 0 =
-    get_or-take n (drop j frame) (2 * k + 1) 0 (omega arith) ∙ get_or-drop j frame (2 * k + 1) 0 ∙ ap (λ (i : ℕ). get_or frame i 0) second in
+    get_or-take n (drop j frame) (2 * k + 1) 0 (omega arith)
+    ∙ get_or-drop j frame (2 * k + 1) 0 ∙ ap (λ (i : ℕ). get_or frame i 0) second in
     omega (arith, get_or-words_of part k, high, low)
 
 -- a written word changes no length

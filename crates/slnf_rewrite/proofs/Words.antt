@@ -6,14 +6,16 @@ use Rattle.byteorder.specs.Endian.{big_bytes}
 use Rattle.slnf_rewrite.specs.Rewritten.{with_word}
 
 -- two bytes that are put behind a front
-put_behind : (front rest : List ℕ) (x y high low : ℕ) → set (set (front ++ x ∷ y ∷ rest) (length front) high) (length front + 1) low ≡ front ++ high ∷ low ∷ rest
+put_behind : (front rest : List ℕ) (x y high low : ℕ)
+    → set (set (front ++ x ∷ y ∷ rest) (length front) high) (length front + 1) low ≡ front ++ high ∷ low ∷ rest
 put_behind [] rest x y high low = refl
 put_behind (z ∷ front) rest x y high low =
     let next : suc (length front) + 1 ≡ suc (length front + 1) = omega arith in
     rw next (ap (λ (bytes : List ℕ). z ∷ bytes) (put_behind front rest x y high low))
 
 -- bytes with a word at a place, by what is before and after it
-with_word-split : (bytes : List ℕ) (place word : ℕ) → place + 2 ≤ length bytes → with_word bytes place word ≡ take place bytes ++ (word / 256) ∷ (word % 256) ∷ drop (place + 2) bytes
+with_word-split : (bytes : List ℕ) (place word : ℕ) → place + 2 ≤ length bytes
+    → with_word bytes place word ≡ take place bytes ++ (word / 256) ∷ (word % 256) ∷ drop (place + 2) bytes
 with_word-split bytes place word inside =
     let front = take place bytes in
     let x = get_or bytes place 0 in
@@ -32,7 +34,9 @@ with_word-split bytes place word inside =
     ∙ put_behind front rest x y (word / 256) (word % 256)
 
 -- what is written into the bytes from a place on
-pub with_word-from_put : (bytes : List ℕ) (place word : ℕ) (part : List ℕ) → place + 2 ≤ length bytes → word < 2 ^ 16 → part ≡ big_bytes 2 word ++ drop 2 (take (length bytes - place) (drop place bytes)) → put_mid place (length bytes - place) bytes part ≡ with_word bytes place word
+pub with_word-from_put : (bytes : List ℕ) (place word : ℕ) (part : List ℕ) → place + 2 ≤ length bytes
+    → word < 2 ^ 16 → part ≡ big_bytes 2 word ++ drop 2 (take (length bytes - place) (drop place bytes))
+    → put_mid place (length bytes - place) bytes part ≡ with_word bytes place word
 with_word-from_put bytes place word part inside fits written =
     let front = take place bytes in
     let none : drop (length bytes - place) (drop place bytes) ≡ [] =

@@ -66,7 +66,9 @@ transport_check frame view address port pair =
 -- the frame with another pair at two places, and both checksums
 abbrev pub with_pair : List ℕ → View → ℕ → ℕ → Pair → List ℕ
 with_pair frame view address port pair =
-    with_word (with_word (with_word (with_address frame address pair.addr) port pair.port) (header_check_place view) (header_check frame view address pair)) (transport_check_place view) (transport_check frame view address port pair)
+    with_word (with_word (with_word (with_address frame address pair.addr) port pair.port)
+    (header_check_place view) (header_check frame view address pair))
+    (transport_check_place view) (transport_check frame view address port pair)
 
 -- the frame after a change of the packet
 abbrev pub rewritten : List ℕ → View → Change → List ℕ

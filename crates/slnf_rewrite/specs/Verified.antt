@@ -17,7 +17,8 @@ header_words frame view = words_of (slice_range frame view.ip view.l4)
 -- user datagram, and the words of so many bytes from the transport header on (RFC 793, RFC 768)
 abbrev pub transport_words : List ℕ → View → ℕ → List ℕ
 transport_words frame view count =
-    words_of (slice_range frame (view.ip + 12) (view.ip + 20)) ++ proto_number view.packet.proto ∷ count ∷ words_of (slice_range frame view.l4 (view.l4 + count))
+    words_of (slice_range frame (view.ip + 12) (view.ip + 20))
+    ++ proto_number view.packet.proto ∷ count ∷ words_of (slice_range frame view.l4 (view.l4 + count))
 
 -- a transport checksum was made: always for TCP, and unless it is zero for UDP (RFC 768)
 abbrev pub HasCheck : List ℕ → View → Type 0
@@ -27,7 +28,8 @@ HasCheck frame view =
 -- a transport checksum that verified verifies, whatever length there is to the transport header and its data
 abbrev pub StaysVerified : List ℕ → List ℕ → View → Type 0
 StaysVerified old new view =
-    (count : ℕ) → transport_length view.packet.proto ≤ count → count < 2 ^ 16 → Verifies (transport_words old view count) → Verifies (transport_words new view count)
+    (count : ℕ) → transport_length view.packet.proto ≤ count
+    → count < 2 ^ 16 → Verifies (transport_words old view count) → Verifies (transport_words new view count)
 
 -- the places of the source's address and port, or of the destination's: side 0 or 1
 abbrev pub IsSide : View → ℕ → ℕ → Type 0

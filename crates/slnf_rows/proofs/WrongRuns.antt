@@ -41,7 +41,8 @@ port_of Lost = 0
 port_of Left = 0
 
 own_claim_strays : Strays (IsPoolTo 40003) race_on_one_flow (nat_body emits_own_claim) (take 7 race_on_one_flow.journal)
-unfolding flow_key_number port_key_number single_number key_number pair_number flow_to_number claim_number claim_of pair_at pair_of flow_to_of
+unfolding flow_key_number port_key_number single_number
+    key_number pair_number flow_to_number claim_number claim_of pair_at pair_of flow_to_of
 own_claim_strays =
     nat_strayed 40003 (omega arith) race_on_one_flow emits_own_claim (take 7 race_on_one_flow.journal) refl
     (0, ((refl, (refl, tt)), refl)) refl
@@ -51,7 +52,8 @@ own_claim_strays =
     ])
 
 pub own_claim : own_claim_is_refused
-unfolding flow_key_number port_key_number single_number key_number pair_number flow_to_number claim_number claim_of pair_at pair_of flow_to_of own_claim_strays
+unfolding flow_key_number port_key_number single_number
+    key_number pair_number flow_to_number claim_number claim_of pair_at pair_of flow_to_of own_claim_strays
 own_claim = record {
   strays = own_claim_strays;
   no_box = λ explained.
@@ -61,7 +63,8 @@ own_claim = record {
 }
 
 pub kept_claim : kept_claim_is_refused
-unfolding flow_key_number port_key_number single_number key_number pair_number flow_to_number claim_number claim_of pair_at pair_of flow_to_of
+unfolding flow_key_number port_key_number single_number
+    key_number pair_number flow_to_number claim_number claim_of pair_at pair_of flow_to_of
 kept_claim =
     nat_strayed 40003 (omega arith) race_on_one_flow keeps_its_claim (take 7 race_on_one_flow.journal) refl
     (0, ((refl, (refl, tt)), refl)) refl
@@ -71,7 +74,8 @@ kept_claim =
     ])
 
 record_first_strays : Strays (IsPoolTo 40000) full_pool (nat_body records_first) one_port_for_two
-unfolding flow_key_number port_key_number single_number key_number pair_number flow_to_number claim_number claim_of pair_at pair_of flow_to_of
+unfolding flow_key_number port_key_number single_number
+    key_number pair_number flow_to_number claim_number claim_of pair_at pair_of flow_to_of
 record_first_strays =
     nat_strayed 40000 (omega arith) full_pool records_first one_port_for_two refl
     (4, ((refl, tt), refl)) refl
@@ -81,7 +85,8 @@ record_first_strays =
     omega arith)
 
 pub record_first : record_first_is_refused
-unfolding flow_key_number port_key_number single_number key_number pair_number flow_to_number claim_number claim_of pair_at pair_of flow_to_of record_first_strays
+unfolding flow_key_number port_key_number single_number
+    key_number pair_number flow_to_number claim_number claim_of pair_at pair_of flow_to_of record_first_strays
 record_first = record {
   strays = record_first_strays;
   no_box = λ explained.
@@ -90,7 +95,8 @@ record_first = record {
 }
 
 pub one_candidate : one_candidate_is_refused
-unfolding flow_key_number port_key_number single_number key_number pair_number flow_to_number claim_number claim_of pair_at pair_of flow_to_of
+unfolding flow_key_number port_key_number single_number
+    key_number pair_number flow_to_number claim_number claim_of pair_at pair_of flow_to_of
 one_candidate =
     nat_strayed 40000 (omega arith) pool_of_one tries_one (take 5 pool_of_one.journal) refl
     (0, ((refl, (refl, tt)), refl)) refl
@@ -100,7 +106,8 @@ one_candidate =
     ])
 
 pub skipped_read : skipped_read_is_refused
-unfolding flow_key_number port_key_number single_number key_number pair_number flow_to_number claim_number claim_of pair_at pair_of flow_to_of
+unfolding flow_key_number port_key_number single_number
+    key_number pair_number flow_to_number claim_number claim_of pair_at pair_of flow_to_of
 skipped_read =
     nat_strayed 40000 (omega arith) pool_of_one skips_last_read (take 5 pool_of_one.journal) refl
     (0, ((refl, (refl, tt)), refl)) refl
@@ -110,14 +117,16 @@ skipped_read =
     ])
 
 pub any_claim : any_claim_is_refused
-unfolding flow_key_number port_key_number single_number key_number pair_number flow_to_number claim_number claim_of pair_at pair_of flow_to_of
+unfolding flow_key_number port_key_number single_number
+    key_number pair_number flow_to_number claim_number claim_of pair_at pair_of flow_to_of
 any_claim =
     nat_strayed 40001 (omega arith) sweep sweeps_any_claim any_claim_swept refl
     (2, ((refl, tt), (4, ((refl, (refl, tt)), refl)))) refl
     (λ run. (run.paths 2 0).1.0)
 
 pub any_flow : any_flow_is_refused
-unfolding flow_key_number port_key_number single_number key_number pair_number flow_to_number claim_number claim_of pair_at pair_of flow_to_of
+unfolding flow_key_number port_key_number single_number
+    key_number pair_number flow_to_number claim_number claim_of pair_at pair_of flow_to_of
 any_flow =
     nat_strayed 40001 (omega arith) sweep sweeps_any_flow any_flow_swept refl
     (2, ((refl, tt), (1, ((refl, (refl, tt)), refl)))) refl
@@ -126,7 +135,8 @@ any_flow =
     cc)
 
 pub new_version : new_version_is_refused
-unfolding flow_key_number port_key_number single_number key_number pair_number flow_to_number claim_number claim_of pair_at pair_of flow_to_of
+unfolding flow_key_number port_key_number single_number
+    key_number pair_number flow_to_number claim_number claim_of pair_at pair_of flow_to_of
 new_version =
     nat_strayed 40001 (omega arith) sweep sweeps_by_a_new_version new_version_swept refl
     (2, ((refl, tt), (3, ((refl, (refl, tt)), refl)))) refl

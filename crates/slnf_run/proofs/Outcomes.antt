@@ -91,7 +91,8 @@ module _ {F A : Type 0} (s : Setting F A) (j : List Entry) (sound : IsSound s) (
       IsDecided s j i number d decision → Took s j lane number i
   comes_taken lane number i d decision on h =
       subst (λ k. Took s j lane k i) h.of
-      (subst (λ n. IsOn s j lane n → Took s j lane h.e.item n) h.by (taken_by_entry s j (offering_of_run s j run) lane d h.e h.at) on)
+      (subst (λ n. IsOn s j lane n → Took s j lane h.e.item n) h.by
+      (taken_by_entry s j (offering_of_run s j run) lane d h.e h.at) on)
 
   -- a decision begins with a flight
   pub begins_flying : (i k d : ℕ) (decision : Decision F) → IsDecided s j i k d decision → s.scene.begins i k
@@ -136,7 +137,8 @@ module _ {F A : Type 0} (s : Setting F A) (j : List Entry) (sound : IsSound s) (
       ((d : ℕ) (e : Entry) (decision : Decision F) → slice_get j d ≡ Some e → decision_at s.scene j d
       ≡ Some decision → Seen d decision) → (lane number : ℕ) → Fate s Seen j lane number
   outcome Seen see lane number = elim (took_or_not s j lane number) [
-    | inr none ↦ Untaken none (all_stopped_before s j lane number none) (left_of_nobody s j lane number none) (never_untaken lane number none)
+    | inr none ↦ Untaken none (all_stopped_before s j lane number none)
+        (left_of_nobody s j lane number none) (never_untaken lane number none)
     | inl r ↦ elim (given_to s j sound run lane number r.0 r.1) [
       | inl begins ↦ Begun r.0 begins.0 r.1 (was_offered s j lane number r.0 r.1) begins.1 begins.2
           (never_begun lane number r.0 (Some (Dropped begins.0)) r.1 begins.1)

@@ -49,12 +49,14 @@ race_journal =
 
 race_scheduled : IsScheduled (setting_of race_plan race_lanes)
     (usual_way (setting_of race_plan race_lanes).eras) race_journal
-unfolding flow_key_number port_key_number single_number key_number pair_number flow_to_number claim_number claim_of pair_at pair_of flow_to_of
+unfolding flow_key_number port_key_number single_number
+    key_number pair_number flow_to_number claim_number claim_of pair_at pair_of flow_to_of
 race_scheduled = record { accesses = race_journal; made = (0, ((refl, (refl, tt)), refl)); sorted = refl }
 
 race_verdicts : verdicts_of (setting_of race_plan race_lanes) race_journal
     ≡ (Emit (Source (port 40001)) ∷ []) ∷ (Emit (Source (port 40001)) ∷ []) ∷ []
-unfolding flow_key_number port_key_number single_number key_number pair_number flow_to_number claim_number claim_of pair_at pair_of flow_to_of
+unfolding flow_key_number port_key_number single_number
+    key_number pair_number flow_to_number claim_number claim_of pair_at pair_of flow_to_of
 race_verdicts = refl
 
 pub race_boxed : IsOneBoxOfPlan race_plan race_lanes race_journal
@@ -67,7 +69,8 @@ race_place : visits_of (setting_of race_plan race_lanes).scene race_journal 6
       arrival = record { packet = packet_f; choice = None; time = 0 };
       verdict = Some (Emit (Source (port 40001)));
     } ∷ []
-unfolding flow_key_number port_key_number single_number key_number pair_number flow_to_number claim_number claim_of pair_at pair_of flow_to_of
+unfolding flow_key_number port_key_number single_number
+    key_number pair_number flow_to_number claim_number claim_of pair_at pair_of flow_to_of
 race_place = refl
 
 abbrev pub record_plan : Plan
@@ -87,7 +90,8 @@ record_journal =
 
 record_scheduled : IsScheduled (setting_of record_plan record_lanes)
     (usual_way (setting_of record_plan record_lanes).eras) record_journal
-unfolding flow_key_number port_key_number single_number key_number pair_number flow_to_number claim_number claim_of pair_at pair_of flow_to_of
+unfolding flow_key_number port_key_number single_number
+    key_number pair_number flow_to_number claim_number claim_of pair_at pair_of flow_to_of
 record_scheduled = record {
   accesses = record_journal;
   made =
@@ -97,7 +101,8 @@ record_scheduled = record {
 
 record_verdicts : verdicts_of (setting_of record_plan record_lanes) record_journal
     ≡ (Lost ∷ Emit (Source (port 40001)) ∷ []) ∷ []
-unfolding flow_key_number port_key_number single_number key_number pair_number flow_to_number claim_number claim_of pair_at pair_of flow_to_of
+unfolding flow_key_number port_key_number single_number
+    key_number pair_number flow_to_number claim_number claim_of pair_at pair_of flow_to_of
 record_verdicts = refl
 
 pub record_boxed : IsOneBoxOfPlan record_plan record_lanes record_journal
@@ -110,7 +115,8 @@ record_place : visits_of (setting_of record_plan record_lanes).scene record_jour
       arrival = record { packet = packet_f; choice = Some (port 40001); time = 0 };
       verdict = Some (Emit (Source (port 40001)));
     } ∷ []
-unfolding flow_key_number port_key_number single_number key_number pair_number flow_to_number claim_number claim_of pair_at pair_of flow_to_of
+unfolding flow_key_number port_key_number single_number
+    key_number pair_number flow_to_number claim_number claim_of pair_at pair_of flow_to_of
 record_place = refl
 
 abbrev claimed_plan : Plan
@@ -127,11 +133,13 @@ claimed_journal =
 
 claimed_scheduled : IsScheduled (setting_of claimed_plan claimed_lanes)
     (usual_way (setting_of claimed_plan claimed_lanes).eras) claimed_journal
-unfolding flow_key_number port_key_number single_number key_number pair_number flow_to_number claim_number claim_of pair_at pair_of flow_to_of
+unfolding flow_key_number port_key_number single_number
+    key_number pair_number flow_to_number claim_number claim_of pair_at pair_of flow_to_of
 claimed_scheduled = record { accesses = claimed_journal; made = (2, ((refl, tt), refl)); sorted = refl }
 
 claimed_verdicts : verdicts_of (setting_of claimed_plan claimed_lanes) claimed_journal ≡ (Lost ∷ []) ∷ []
-unfolding flow_key_number port_key_number single_number key_number pair_number flow_to_number claim_number claim_of pair_at pair_of flow_to_of
+unfolding flow_key_number port_key_number single_number
+    key_number pair_number flow_to_number claim_number claim_of pair_at pair_of flow_to_of
 claimed_verdicts = refl
 
 pub claimed_boxed : IsOneBoxOfPlan claimed_plan claimed_lanes claimed_journal
@@ -158,12 +166,14 @@ hang_journal =
 
 hang_scheduled : IsScheduled (setting_of hang_plan hang_lanes)
     (usual_way (setting_of hang_plan hang_lanes).eras) hang_journal
-unfolding flow_key_number port_key_number single_number key_number pair_number flow_to_number claim_number claim_of pair_at pair_of flow_to_of
+unfolding flow_key_number port_key_number single_number
+    key_number pair_number flow_to_number claim_number claim_of pair_at pair_of flow_to_of
 hang_scheduled = record { accesses = hang_journal; made = (0, ((refl, (refl, tt)), refl)); sorted = refl }
 
 hang_verdicts : verdicts_of (setting_of hang_plan hang_lanes) hang_journal
     ≡ (Emit (Source (port 40001)) ∷ []) ∷ (Lost ∷ []) ∷ []
-unfolding flow_key_number port_key_number single_number key_number pair_number flow_to_number claim_number claim_of pair_at pair_of flow_to_of
+unfolding flow_key_number port_key_number single_number
+    key_number pair_number flow_to_number claim_number claim_of pair_at pair_of flow_to_of
 hang_verdicts = refl
 
 pub hang_boxed : IsOneBoxOfPlan hang_plan hang_lanes hang_journal
@@ -189,12 +199,14 @@ twice_journal =
 
 twice_scheduled : IsScheduled (setting_of twice_plan twice_lanes)
     (usual_way (setting_of twice_plan twice_lanes).eras) twice_journal
-unfolding flow_key_number port_key_number single_number key_number pair_number flow_to_number claim_number claim_of pair_at pair_of flow_to_of
+unfolding flow_key_number port_key_number single_number
+    key_number pair_number flow_to_number claim_number claim_of pair_at pair_of flow_to_of
 twice_scheduled = record { accesses = twice_journal; made = (0, ((refl, (refl, tt)), refl)); sorted = refl }
 
 twice_verdicts : verdicts_of (setting_of twice_plan twice_lanes) twice_journal
     ≡ (Emit (Source (port 40000)) ∷ []) ∷ (Emit (Source (port 40000)) ∷ []) ∷ []
-unfolding flow_key_number port_key_number single_number key_number pair_number flow_to_number claim_number claim_of pair_at pair_of flow_to_of
+unfolding flow_key_number port_key_number single_number
+    key_number pair_number flow_to_number claim_number claim_of pair_at pair_of flow_to_of
 twice_verdicts = refl
 
 pub twice_boxed : IsOneBoxOfPlan twice_plan twice_lanes twice_journal
@@ -220,12 +232,14 @@ starved_journal =
 
 starved_scheduled : IsScheduled (setting_of starved_plan starved_lanes)
     (usual_way (setting_of starved_plan starved_lanes).eras) starved_journal
-unfolding flow_key_number port_key_number single_number key_number pair_number flow_to_number claim_number claim_of pair_at pair_of flow_to_of
+unfolding flow_key_number port_key_number single_number
+    key_number pair_number flow_to_number claim_number claim_of pair_at pair_of flow_to_of
 starved_scheduled = record { accesses = starved_journal; made = (0, ((refl, (refl, tt)), refl)); sorted = refl }
 
 starved_verdicts : verdicts_of (setting_of starved_plan starved_lanes) starved_journal
     ≡ (Emit (Source (port 40000)) ∷ []) ∷ (Dropped NoPort ∷ []) ∷ []
-unfolding flow_key_number port_key_number single_number key_number pair_number flow_to_number claim_number claim_of pair_at pair_of flow_to_of
+unfolding flow_key_number port_key_number single_number
+    key_number pair_number flow_to_number claim_number claim_of pair_at pair_of flow_to_of
 starved_verdicts = refl
 
 pub starved_boxed : IsOneBoxOfPlan starved_plan starved_lanes starved_journal
@@ -244,11 +258,13 @@ empty_journal =
 
 empty_scheduled : IsScheduled (setting_of empty_plan empty_lanes)
     (usual_way (setting_of empty_plan empty_lanes).eras) empty_journal
-unfolding flow_key_number port_key_number single_number key_number pair_number flow_to_number claim_number claim_of pair_at pair_of flow_to_of
+unfolding flow_key_number port_key_number single_number
+    key_number pair_number flow_to_number claim_number claim_of pair_at pair_of flow_to_of
 empty_scheduled = record { accesses = empty_journal; made = (0, (tt, (0, ((refl, tt), refl)))); sorted = refl }
 
 empty_verdicts : verdicts_of (setting_of empty_plan empty_lanes) empty_journal ≡ ([]) ∷ []
-unfolding flow_key_number port_key_number single_number key_number pair_number flow_to_number claim_number claim_of pair_at pair_of flow_to_of
+unfolding flow_key_number port_key_number single_number
+    key_number pair_number flow_to_number claim_number claim_of pair_at pair_of flow_to_of
 empty_verdicts = refl
 
 pub empty_boxed : IsOneBoxOfPlan empty_plan empty_lanes empty_journal

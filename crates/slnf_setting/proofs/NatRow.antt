@@ -143,12 +143,14 @@ journal =
 
 -- the schedule makes the journal
 pub scheduled : IsScheduled (setting_of plan lanes) (usual_way (setting_of plan lanes).eras) journal
-unfolding flow_key_number port_key_number single_number key_number pair_number flow_to_number claim_number claim_of pair_at pair_of flow_to_of
+unfolding flow_key_number port_key_number single_number
+    key_number pair_number flow_to_number claim_number claim_of pair_at pair_of flow_to_of
 scheduled = record { accesses = journal; made = (2, ((refl, tt), (2, ((refl, (refl, tt)), refl)))); sorted = refl }
 
 -- the stopped instance's packet is lost, and the other is emitted from the pool's first port
 verdicts : verdicts_of (setting_of plan lanes) journal ≡ (Lost ∷ []) ∷ (Emit (Source (port 40000)) ∷ []) ∷ []
-unfolding flow_key_number port_key_number single_number key_number pair_number flow_to_number claim_number claim_of pair_at pair_of flow_to_of
+unfolding flow_key_number port_key_number single_number
+    key_number pair_number flow_to_number claim_number claim_of pair_at pair_of flow_to_of
 verdicts = refl
 
 pub run : IsRun (setting_of plan lanes) journal

@@ -57,12 +57,14 @@ back_journal =
 
 back_scheduled : IsScheduled (setting_of back_plan back_lanes)
     (usual_way (setting_of back_plan back_lanes).eras) back_journal
-unfolding flow_key_number port_key_number single_number key_number pair_number flow_to_number claim_number claim_of pair_at pair_of flow_to_of
+unfolding flow_key_number port_key_number single_number
+    key_number pair_number flow_to_number claim_number claim_of pair_at pair_of flow_to_of
 back_scheduled = record { accesses = back_journal; made = (0, ((refl, (refl, tt)), refl)); sorted = refl }
 
 back_verdicts : verdicts_of (setting_of back_plan back_lanes) back_journal
     ≡ (Emit (Source (port 40001)) ∷ []) ∷ (Emit (Dest five) ∷ []) ∷ []
-unfolding flow_key_number port_key_number single_number key_number pair_number flow_to_number claim_number claim_of pair_at pair_of flow_to_of
+unfolding flow_key_number port_key_number single_number
+    key_number pair_number flow_to_number claim_number claim_of pair_at pair_of flow_to_of
 back_verdicts = refl
 
 pub back_boxed : IsOneBoxOfPlan back_plan back_lanes back_journal
@@ -91,12 +93,14 @@ early_journal =
 
 early_scheduled : IsScheduled (setting_of early_plan early_lanes)
     (usual_way (setting_of early_plan early_lanes).eras) early_journal
-unfolding flow_key_number port_key_number single_number key_number pair_number flow_to_number claim_number claim_of pair_at pair_of flow_to_of
+unfolding flow_key_number port_key_number single_number
+    key_number pair_number flow_to_number claim_number claim_of pair_at pair_of flow_to_of
 early_scheduled = record { accesses = early_journal; made = (0, ((refl, (refl, tt)), refl)); sorted = refl }
 
 early_verdicts : verdicts_of (setting_of early_plan early_lanes) early_journal
     ≡ (Emit (Source (port 40001)) ∷ []) ∷ (Dropped NoFlow ∷ []) ∷ []
-unfolding flow_key_number port_key_number single_number key_number pair_number flow_to_number claim_number claim_of pair_at pair_of flow_to_of
+unfolding flow_key_number port_key_number single_number
+    key_number pair_number flow_to_number claim_number claim_of pair_at pair_of flow_to_of
 early_verdicts = refl
 
 pub early_boxed : IsOneBoxOfPlan early_plan early_lanes early_journal
@@ -105,12 +109,14 @@ early_boxed = one_box_of_plan early_plan early_lanes early_journal refl
 
 early_place : visits_of (setting_of early_plan early_lanes).scene early_journal 2 early_second
     ≡ record { arrival = record { packet = answer; choice = None; time = 0 }; verdict = Some (Dropped NoFlow) } ∷ []
-unfolding flow_key_number port_key_number single_number key_number pair_number flow_to_number claim_number claim_of pair_at pair_of flow_to_of
+unfolding flow_key_number port_key_number single_number
+    key_number pair_number flow_to_number claim_number claim_of pair_at pair_of flow_to_of
 early_place = refl
 
 early_content : content_after (setting_of early_plan early_lanes).scene (any_nat_box (nat_of wide)) early_journal 5
     ≡ record { proto = Tcp; inside = five; outside = port 40001 } ∷ []
-unfolding flow_key_number port_key_number single_number key_number pair_number flow_to_number claim_number claim_of pair_at pair_of flow_to_of
+unfolding flow_key_number port_key_number single_number
+    key_number pair_number flow_to_number claim_number claim_of pair_at pair_of flow_to_of
 early_content = refl
 
 -- ---- a full pool
@@ -133,12 +139,14 @@ full_journal =
 
 full_scheduled : IsScheduled (setting_of full_plan full_lanes)
     (usual_way (setting_of full_plan full_lanes).eras) full_journal
-unfolding flow_key_number port_key_number single_number key_number pair_number flow_to_number claim_number claim_of pair_at pair_of flow_to_of
+unfolding flow_key_number port_key_number single_number
+    key_number pair_number flow_to_number claim_number claim_of pair_at pair_of flow_to_of
 full_scheduled = record { accesses = full_journal; made = (6, ((refl, tt), refl)); sorted = refl }
 
 full_verdicts : verdicts_of (setting_of full_plan full_lanes) full_journal
     ≡ (Emit (Source (port 40000)) ∷ Dropped NoPort ∷ []) ∷ []
-unfolding flow_key_number port_key_number single_number key_number pair_number flow_to_number claim_number claim_of pair_at pair_of flow_to_of
+unfolding flow_key_number port_key_number single_number
+    key_number pair_number flow_to_number claim_number claim_of pair_at pair_of flow_to_of
 full_verdicts = refl
 
 pub full_boxed : IsOneBoxOfPlan full_plan full_lanes full_journal

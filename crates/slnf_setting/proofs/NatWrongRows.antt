@@ -68,7 +68,8 @@ journal = n0 ∷ n1 ∷ n2 ∷ n3 ∷ n4 ∷ n5 ∷ n6 ∷ n7 ∷ n8 ∷ []
 
 -- a run
 scheduled : IsScheduled (setting_of plan lanes) (usual_way (setting_of plan lanes).eras) journal
-unfolding flow_key_number port_key_number single_number key_number pair_number flow_to_number claim_number claim_of pair_at pair_of flow_to_of
+unfolding flow_key_number port_key_number single_number
+    key_number pair_number flow_to_number claim_number claim_of pair_at pair_of flow_to_of
 scheduled = record {
   accesses = journal;
   made = (6, ((refl, tt), (3, ((refl, tt), refl))));
@@ -86,7 +87,8 @@ post_1 = record { actor = record { lane = None; quota = None; stop = None }; era
 
 -- one pair for two flows, without a claim
 one_port : Runs (n0 ∷ n1 ∷ n2 ∷ n3 ∷ entry 5 0 1 (PutIfAbsent (flow six) (to 40000)) (Done 5) ∷ []) → ⊥
-unfolding flow_key_number port_key_number single_number key_number pair_number flow_to_number claim_number claim_of pair_at pair_of flow_to_of
+unfolding flow_key_number port_key_number single_number
+    key_number pair_number flow_to_number claim_number claim_of pair_at pair_of flow_to_of
 one_port run =
     let same : key_of (PutIfAbsent (flow six) (to 40000)) ≡ key_of (PutIfAbsent (tcp 40000) (claim 0 six)) =
     ap key_of (run.paths 0 1).1.0 in
@@ -94,7 +96,8 @@ one_port run =
 
 -- the record before the claim
 record_first : Runs (n0 ∷ entry 2 0 0 (PutIfAbsent (flow five) (to 40000)) (Done 2) ∷ []) → ⊥
-unfolding flow_key_number port_key_number single_number key_number pair_number flow_to_number claim_number claim_of pair_at pair_of flow_to_of
+unfolding flow_key_number port_key_number single_number
+    key_number pair_number flow_to_number claim_number claim_of pair_at pair_of flow_to_of
 record_first run =
     let same : key_of (PutIfAbsent (flow five) (to 40000)) ≡ key_of (PutIfAbsent (tcp 40000) (claim 0 five)) =
     ap key_of (run.paths 0 0).1.0 in
@@ -102,7 +105,8 @@ record_first run =
 
 -- no port without the last read
 hasty : Runs (n0 ∷ n1 ∷ n2 ∷ n3 ∷ n4 ∷ n6 ∷ n7 ∷ n8 ∷ []) → ⊥
-unfolding flow_key_number port_key_number single_number key_number pair_number flow_to_number claim_number claim_of pair_at pair_of flow_to_of
+unfolding flow_key_number port_key_number single_number
+    key_number pair_number flow_to_number claim_number claim_of pair_at pair_of flow_to_of
 hasty run = elim (run.done 0 post_0 refl) [
   | inl stopped ↦ absurd (cc)
   | inr whole ↦ whole.1.1.0
@@ -110,24 +114,28 @@ hasty run = elim (run.done 0 post_0 refl) [
 
 -- a sweep takes a live flow's claim away
 live_taken : Runs (n0 ∷ n1 ∷ n2 ∷ n3 ∷ n4 ∷ n5 ∷ n6 ∷ n7 ∷ entry 9 1 0 (DeleteIf (tcp 40000) 2) (Done 9) ∷ []) → ⊥
-unfolding flow_key_number port_key_number single_number key_number pair_number flow_to_number claim_number claim_of pair_at pair_of flow_to_of
+unfolding flow_key_number port_key_number single_number
+    key_number pair_number flow_to_number claim_number claim_of pair_at pair_of flow_to_of
 live_taken run = (run.paths 1 0).1.1.0
 
 -- a sweep deletes without a look
 blind_sweep : Runs (n0 ∷ n1 ∷ n2 ∷ n3 ∷ n4 ∷ n5 ∷ entry 7 1 0 (DeleteIf (tcp 40000) 2) (Done 7) ∷ []) → ⊥
-unfolding flow_key_number port_key_number single_number key_number pair_number flow_to_number claim_number claim_of pair_at pair_of flow_to_of
+unfolding flow_key_number port_key_number single_number
+    key_number pair_number flow_to_number claim_number claim_of pair_at pair_of flow_to_of
 blind_sweep run =
     let asked : DeleteIf (tcp 40000) 2 ≡ Read (tcp 40000) = (run.paths 1 0).0 in
     cc
 
 -- a sweep goes past its last port
 sweep_past : Runs (n0 ∷ n1 ∷ n2 ∷ n3 ∷ n4 ∷ n5 ∷ n6 ∷ n7 ∷ n8 ∷ entry 10 1 2 udp Absent ∷ []) → ⊥
-unfolding flow_key_number port_key_number single_number key_number pair_number flow_to_number claim_number claim_of pair_at pair_of flow_to_of
+unfolding flow_key_number port_key_number single_number
+    key_number pair_number flow_to_number claim_number claim_of pair_at pair_of flow_to_of
 sweep_past run = (run.paths 1 2).0
 
 -- a sweep leaves the UDP ports out
 sweep_short : Runs (n0 ∷ n1 ∷ n2 ∷ n3 ∷ n4 ∷ n5 ∷ n6 ∷ n7 ∷ []) → ⊥
-unfolding flow_key_number port_key_number single_number key_number pair_number flow_to_number claim_number claim_of pair_at pair_of flow_to_of
+unfolding flow_key_number port_key_number single_number
+    key_number pair_number flow_to_number claim_number claim_of pair_at pair_of flow_to_of
 sweep_short run = elim (run.done 1 post_1 refl) [
   | inl stopped ↦ absurd (cc)
   | inr whole ↦ whole.1.1.0

@@ -38,21 +38,25 @@ at-itself : (call : Call) (name : List ℕ) → is_fault_at call name (record { 
 at-itself call name = rw (same_call-itself call) ((bytes_eq-Decides name name).1 refl)
 
 -- and at no other
-at-others : (call call' : Call) (name name' : List ℕ) → ¬ Only call name call' name' → is_fault_at call' name' (record { call = call; name = name }) ≡ false
+at-others : (call call' : Call) (name name' : List ℕ)
+    → ¬ Only call name call' name' → is_fault_at call' name' (record { call = call; name = name }) ≡ false
 at-others call call' name name' other = is_false (same_call call call' && bytes_eq name name')
     (λ e. let p = both-true (same_call call call') (bytes_eq name name') e in
     other (sym (same_call-equal call call' p.0), sym ((bytes_eq-Decides name name').0 p.1)))
 
-one-more : (faults : List Fault) (fault : Fault) (call : Call) (name : List ℕ) → fault_count (faults ++ fault ∷ []) call name ≡ fault_count faults call name + (0 + cond (is_fault_at call name fault) 1 0)
+one-more : (faults : List Fault) (fault : Fault) (call : Call) (name : List ℕ) → fault_count
+    (faults ++ fault ∷ []) call name ≡ fault_count faults call name + (0 + cond (is_fault_at call name fault) 1 0)
 one-more faults fault call name = sum_by-append (λ f. cond (is_fault_at call name f) 1 0) faults (fault ∷ [])
 
-pub Moves-noted : (faults now : List Fault) (call : Call) (name : List ℕ) → now ≡ faults ++ record { call = call; name = name } ∷ [] → Moves (Only call name) (fault_count faults) (fault_count now)
+pub Moves-noted : (faults now : List Fault) (call : Call) (name : List ℕ) → now ≡ faults
+    ++ record { call = call; name = name } ∷ [] → Moves (Only call name) (fault_count faults) (fault_count now)
 Moves-noted faults now call name e = record {
   later = λ call' name'. rw e (let p = one-more faults (record { call = call; name = name }) call' name' in omega arith);
   others = λ call' name' other. rw e (one-more faults (record { call = call; name = name }) call' name'
       ∙ ap (λ b. fault_count faults call' name' + (0 + cond b 1 0)) (at-others call call' name name' other) ∙ omega arith);
 }
 
-pub Rose-noted : (faults now : List Fault) (call : Call) (name : List ℕ) → now ≡ faults ++ record { call = call; name = name } ∷ [] → Rose call name (fault_count faults) (fault_count now)
+pub Rose-noted : (faults now : List Fault) (call : Call) (name : List ℕ)
+    → now ≡ faults ++ record { call = call; name = name } ∷ [] → Rose call name (fault_count faults) (fault_count now)
 Rose-noted faults now call name e = rw e (let p = one-more faults (record { call = call; name = name }) call name
     ∙ ap (λ b. fault_count faults call name + (0 + cond b 1 0)) (at-itself call name) in omega arith)

@@ -17,17 +17,20 @@ Moves-then may a b c m n = record {
 }
 
 -- more calls may be made than were
-pub Moves-wider : (may wider : Call → List ℕ → Type 0) (a b : Faults) → ((call : Call) (name : List ℕ) → may call name → wider call name) → Moves may a b → Moves wider a b
+pub Moves-wider : (may wider : Call → List ℕ → Type 0) (a b : Faults)
+    → ((call : Call) (name : List ℕ) → may call name → wider call name) → Moves may a b → Moves wider a b
 Moves-wider may wider a b w m = record {
   later = m.later;
   others = λ call name not. m.others call name (λ h. not (w call name h));
 }
 
 -- a number that rose stays above what it was
-pub Rose-then : (may : Call → List ℕ → Type 0) (call : Call) (name : List ℕ) (a b c : Faults) → Rose call name a b → Moves may b c → Rose call name a c
+pub Rose-then : (may : Call → List ℕ → Type 0) (call : Call) (name : List ℕ) (a b c : Faults)
+    → Rose call name a b → Moves may b c → Rose call name a c
 Rose-then may call name a b c r m = let p = m.later call name in omega arith
 
-pub Rose-after : (may : Call → List ℕ → Type 0) (call : Call) (name : List ℕ) (a b c : Faults) → Moves may a b → Rose call name b c → Rose call name a c
+pub Rose-after : (may : Call → List ℕ → Type 0) (call : Call) (name : List ℕ) (a b c : Faults)
+    → Moves may a b → Rose call name b c → Rose call name a c
 Rose-after may call name a b c m r = let p = m.later call name in omega arith
 
 -- what was added after what was added
@@ -49,5 +52,6 @@ set_to-set_to p q None = refl
 set_to-set_to p q (Some held) = refl
 
 -- a front of a text, and then the front of its rest
-pub with_more-front : (m n : ℕ) (text : List ℕ) (o : Option (List ℕ)) → with_more (take n (drop m text)) (with_more (take m text) o) ≡ with_more (take (m + n) text) o
+pub with_more-front : (m n : ℕ) (text : List ℕ) (o : Option (List ℕ))
+    → with_more (take n (drop m text)) (with_more (take m text) o) ≡ with_more (take (m + n) text) o
 with_more-front m n text o = with_more-with_more _ _ o ∙ ap (λ piece. with_more piece o) (sym (take-add m n text))

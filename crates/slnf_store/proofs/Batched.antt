@@ -41,7 +41,18 @@ pub so_far_none : (incarnation clock : ℕ) (old : Kept) (asks : List Ask) (spar
     → length asks ≡ length replies
     → SoFar incarnation clock old asks 0 clock spare old replies
 so_far_none incarnation clock old asks spare replies last stamps room count =
-    record { shard = refl; shards = refl; last = last; room = omega arith; stamps = omega arith; count = count; within = omega arith; entries = refl; replied = refl; stamp = refl }
+    record {
+      shard = refl;
+      shards = refl;
+      last = last;
+      room = omega arith;
+      stamps = omega arith;
+      count = count;
+      within = omega arith;
+      entries = refl;
+      replied = refl;
+      stamp = refl;
+    }
 
 -- one access more, whose entry is e
 more_with : (incarnation clock : ℕ) (old : Kept) (asks : List Ask) (i now spare spare' : ℕ) (kept : Kept)
@@ -133,5 +144,10 @@ pub all_made : (shard number : ℕ) (earlier : List Entry) (incarnation clock : 
     → incarnation + 1 ≡ number
     → AreMade shard number earlier clock (entries_after earlier shard incarnation clock asks)
 all_made shard number earlier incarnation clock [] is = tt
-all_made shard number earlier incarnation clock (a ∷ asks) is =
-    (refl, refl, is, all_made shard number (earlier ++ entry_after earlier shard incarnation clock a.item a.request ∷ []) incarnation (max (last_stamp 0 earlier) clock + 1) asks is)
+all_made shard number earlier incarnation clock (a ∷ asks) is = (
+  refl,
+  refl,
+  is,
+  all_made shard number (earlier ++ entry_after earlier shard incarnation clock a.item a.request
+      ∷ []) incarnation (max (last_stamp 0 earlier) clock + 1) asks is,
+)

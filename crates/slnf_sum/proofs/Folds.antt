@@ -57,7 +57,8 @@ carried : (high low : ℕ) → fold_of (high * 2 ^ 16 + low) ≡ fold_of (high +
 carried high low =
     elim (cases_lt 0 (high + low)) [
       | inl some ↦
-          fold_of-is (high * 2 ^ 16 + low) (fold_of (high + low)) (omega arith) (fold_of-pos (high + low) some) (fold_of-le (high + low)) (let kept = fold_of-rem (high + low) in omega (arith, kept))
+          fold_of-is (high * 2 ^ 16 + low) (fold_of (high + low)) (omega arith) (fold_of-pos (high + low) some)
+          (fold_of-le (high + low)) (let kept = fold_of-rem (high + low) in omega (arith, kept))
       | inr none ↦
           let low_none : low ≡ 0 = omega arith in
           let high_none : high ≡ 0 = omega arith in

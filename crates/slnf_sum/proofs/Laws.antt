@@ -12,7 +12,9 @@ abbrev shift_of : (ℕ × ℕ) → ℕ
 shift_of change = complement change.0 + change.1
 
 -- what the changes add to the field's complement is what they add to the sum, but for multiples of 65535
-balance : (field : ℕ) (puts : List (ℕ × ℕ)) (words : List ℕ) → All (λ word. word < 2 ^ 16) words → AllByRecursion (IsBeside (length words) field) puts → sum_by shift_of (replaced puts words) + sum words ≡ 65535 * length puts + sum (with_words puts words)
+balance : (field : ℕ) (puts : List (ℕ × ℕ)) (words : List ℕ)
+    → All (λ word. word < 2 ^ 16) words → AllByRecursion (IsBeside (length words) field) puts
+    → sum_by shift_of (replaced puts words) + sum words ≡ 65535 * length puts + sum (with_words puts words)
 balance field [] words small beside = omega arith
 balance field (put ∷ puts) words small (first, others) =
     let old = get_or words put.0 0 in
@@ -26,7 +28,8 @@ balance field (put ∷ puts) words small (first, others) =
     omega arith
 
 -- a place keeps its word where no new one is put
-pub get_or-with_words : (field count : ℕ) (puts : List (ℕ × ℕ)) (words : List ℕ) → AllByRecursion (IsBeside count field) puts → get_or (with_words puts words) field 0 ≡ get_or words field 0
+pub get_or-with_words : (field count : ℕ) (puts : List (ℕ × ℕ)) (words : List ℕ)
+    → AllByRecursion (IsBeside count field) puts → get_or (with_words puts words) field 0 ≡ get_or words field 0
 get_or-with_words field count [] words beside = refl
 get_or-with_words field count (put ∷ puts) words (first, others) =
     get_or-with_words field count puts (set words put.0 put.1) others
@@ -47,7 +50,8 @@ sum-pos words place other =
     ]
 
 -- numbers alone: c is the field, n the adjusted one, s and t the sums of all words before and after, x what is folded
-remainders : (c n s t x y k folded : ℕ) → c ≤ 65535 → n ≡ 65535 - folded → folded ≤ 65535 → folded % 65535 ≡ x % 65535 → x ≡ 65535 - c + y → y + s ≡ 65535 * k + t → s % 65535 ≡ 0 → c ≤ t → (t + n - c) % 65535 ≡ 0
+remainders : (c n s t x y k folded : ℕ) → c ≤ 65535 → n ≡ 65535 - folded → folded ≤ 65535 → folded % 65535 ≡ x % 65535
+    → x ≡ 65535 - c + y → y + s ≡ 65535 * k + t → s % 65535 ≡ 0 → c ≤ t → (t + n - c) % 65535 ≡ 0
 remainders c n s t x y k folded fits is bound kept split even full within = omega arith
 
 -- words verify exactly where their sum is above zero and a multiple of 65535
@@ -73,7 +77,8 @@ law_of_sums words field puts small inside beside (place, apart, other) verified 
     let still : get_or after place 0 ≡ get_or changed place 0 = get_or-set_other changed field place new 0 apart in
     let some = sum-pos after place (λ e. other (sym still ∙ e)) in
     let even = balance field puts words small beside in
-    let full = remainders check new (sum words) (sum changed) x (sum_by shift_of changes) (length puts) (fold_of x) (omega arith) refl (fold_of-le x) (fold_of-rem x) refl even (sum-verified words verified) (omega arith) in
+    let full = remainders check new (sum words) (sum changed) x (sum_by shift_of changes) (length puts) (fold_of x)
+    (omega arith) refl (fold_of-le x) (fold_of-rem x) refl even (sum-verified words verified) (omega arith) in
     Verifies-from after some (omega arith)
 
 pub law_of_zeros : LawOfZeros
@@ -90,14 +95,17 @@ adjusted-one check old new =
     ap (λ (n : ℕ). complement (fold_of n)) joined
 
 -- a checksum that was adjusted and is adjusted by one more change
-pub adjusted-push : (check : ℕ) (changes : List (ℕ × ℕ)) (old new : ℕ) → adjusted (adjusted_over check changes) old new ≡ adjusted_over check (changes ++ (old, new) ∷ [])
+pub adjusted-push : (check : ℕ) (changes : List (ℕ × ℕ)) (old new : ℕ)
+    → adjusted (adjusted_over check changes) old new ≡ adjusted_over check (changes ++ (old, new) ∷ [])
 adjusted-push check changes old new =
     let x = complement check + sum_by shift_of changes in
     let high = fold_of-le x in
     let turned : complement (adjusted_over check changes) ≡ fold_of x = omega arith in
-    let joined : complement (adjusted_over check changes) + complement old + new ≡ fold_of x + (complement old + new) = omega (arith, turned) in
+    let joined : complement (adjusted_over check changes) + complement old + new ≡ fold_of x + (complement old + new) =
+    omega (arith, turned) in
     let pushed = sum_by_push shift_of changes (old, new) in
-    let total : x + (complement old + new) ≡ complement check + sum_by shift_of (changes ++ (old, new) ∷ []) = omega (arith, pushed) in
+    let total : x + (complement old + new) ≡ complement check + sum_by shift_of (changes ++ (old, new) ∷ []) =
+    omega (arith, pushed) in
     ap (λ (n : ℕ). complement (fold_of n)) joined
     ∙ ap complement (fold_of-add x (complement old + new))
     ∙ ap (λ (n : ℕ). complement (fold_of n)) total
@@ -112,7 +120,8 @@ unfolding twice
 twice-is zero = refl
 twice-is (suc k) = let rest = twice-is k in omega (arith, rest)
 
-at_twice : (k : ℕ) (bytes : List ℕ) → get_or (words_of bytes) k 0 ≡ get_or bytes (twice k) 0 * 256 + get_or bytes (suc (twice k)) 0
+at_twice : (k : ℕ) (bytes : List ℕ)
+    → get_or (words_of bytes) k 0 ≡ get_or bytes (twice k) 0 * 256 + get_or bytes (suc (twice k)) 0
 unfolding twice
 at_twice k [] = omega arith
 at_twice zero (high ∷ []) = omega arith
@@ -121,14 +130,16 @@ at_twice zero (high ∷ low ∷ rest) = refl
 at_twice (suc k) (high ∷ low ∷ rest) = at_twice k rest
 
 -- the word at a place
-pub get_or-words_of : (bytes : List ℕ) (k : ℕ) → get_or (words_of bytes) k 0 ≡ get_or bytes (2 * k) 0 * 256 + get_or bytes (2 * k + 1) 0
+pub get_or-words_of : (bytes : List ℕ) (k : ℕ)
+    → get_or (words_of bytes) k 0 ≡ get_or bytes (2 * k) 0 * 256 + get_or bytes (2 * k + 1) 0
 get_or-words_of bytes k =
     let high : get_or bytes (twice k) 0 ≡ get_or bytes (2 * k) 0 = ap (λ (i : ℕ). get_or bytes i 0) (twice-is k) in
     let after : suc (twice k) ≡ 2 * k + 1 = omega (arith, twice-is k) in
     let low : get_or bytes (suc (twice k)) 0 ≡ get_or bytes (2 * k + 1) 0 = ap (λ (i : ℕ). get_or bytes i 0) after in
     omega (arith, at_twice k bytes)
 
-put_twice : (k : ℕ) (bytes : List ℕ) (high low : ℕ) → suc (twice k) < length bytes → words_of (set (set bytes (twice k) high) (suc (twice k)) low) ≡ set (words_of bytes) k (high * 256 + low)
+put_twice : (k : ℕ) (bytes : List ℕ) (high low : ℕ) → suc (twice k) < length bytes
+    → words_of (set (set bytes (twice k) high) (suc (twice k)) low) ≡ set (words_of bytes) k (high * 256 + low)
 unfolding twice
 put_twice zero [] high low inside = absurd (omega arith)
 put_twice zero (x ∷ []) high low inside = absurd (omega arith)
@@ -139,7 +150,8 @@ put_twice (suc k) (x ∷ y ∷ rest) high low inside =
     ap (λ (words : List ℕ). (x * 256 + y) ∷ words) (put_twice k rest high low (omega arith))
 
 -- two bytes that are put at an even place put a word
-pub words_of-set : (bytes : List ℕ) (k high low : ℕ) → 2 * k + 2 ≤ length bytes → words_of (set (set bytes (2 * k) high) (2 * k + 1) low) ≡ set (words_of bytes) k (high * 256 + low)
+pub words_of-set : (bytes : List ℕ) (k high low : ℕ) → 2 * k + 2 ≤ length bytes
+    → words_of (set (set bytes (2 * k) high) (2 * k + 1) low) ≡ set (words_of bytes) k (high * 256 + low)
 words_of-set bytes k high low inside =
     let even = twice-is k in
     let first : 2 * k ≡ twice k = omega (arith, even) in
@@ -170,4 +182,5 @@ All-words_of (high ∷ low ∷ rest) small =
     let others = All-tail (λ (byte : ℕ). byte < 256) high (low ∷ rest) small in
     let second = All-head (λ (byte : ℕ). byte < 256) low rest others in
     let left = All-tail (λ (byte : ℕ). byte < 256) low rest others in
-    All-cons (λ (word : ℕ). word < 2 ^ 16) (high * 256 + low) (words_of rest) (omega (arith, first, second)) (All-words_of rest left)
+    All-cons (λ (word : ℕ). word < 2 ^ 16) (high * 256 + low) (words_of rest)
+    (omega (arith, first, second)) (All-words_of rest left)

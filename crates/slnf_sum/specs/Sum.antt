@@ -59,12 +59,15 @@ HasOther words field = (place : ℕ) × (place ≢ field) × (slice_index words 
 -- change, if there is another word than zero beside it then (RFC 1624).
 abbrev pub LawOfSums : Type 0
 LawOfSums =
-    (words : List ℕ) (field : ℕ) (puts : List (ℕ × ℕ)) → All (λ word. word < 2 ^ 16) words → field < length words → AllByRecursion (IsBeside (length words) field) puts → HasOther (with_words puts words) field → Verifies words → Verifies (slice_set (with_words puts words) field (adjusted_over (slice_index words field) (replaced puts words)))
+    (words : List ℕ) (field : ℕ) (puts : List (ℕ × ℕ)) → All (λ word. word < 2 ^ 16) words → field < length words
+    → AllByRecursion (IsBeside (length words) field) puts → HasOther (with_words puts words) field → Verifies words
+    → Verifies (slice_set (with_words puts words) field (adjusted_over (slice_index words field) (replaced puts words)))
 
 -- Where zero in a field verifies, so does ffff, the other zero of ones' complement.
 abbrev pub LawOfZeros : Type 0
 LawOfZeros =
-    (words : List ℕ) (field : ℕ) → field < length words → Verifies (slice_set words field 0) → Verifies (slice_set words field 65535)
+    (words : List ℕ) (field : ℕ) → field < length words
+    → Verifies (slice_set words field 0) → Verifies (slice_set words field 65535)
 
 -- Folding adds the part above 16 bits to the part below, until nothing is above.
 abbrev pub LawOfCarries : Type 0

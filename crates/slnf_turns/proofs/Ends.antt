@@ -61,11 +61,21 @@ module _ {B : Type 0} (lines : B → List Line) (place places : B → ℕ) where
   abbrev R : State (Option B) View → Type 0
   R = Rule lines place places
 
-  pub starts : (words : List ℕ) (slots : List (Option B)) (bs : List B) → slots ≡ map Some bs → length words ≡ 32 * length bs → ((i : ℕ) → get_or words i 0 ≡ 0) → AreFresh lines place places (length bs) bs
+  pub starts : (words : List ℕ) (slots : List (Option B)) (bs : List B) → slots ≡ map Some bs
+      → length words ≡ 32 * length bs → ((i : ℕ) → get_or words i 0 ≡ 0) → AreFresh lines place places (length bs) bs
       → R (opening words slots first_view)
   starts words slots bs is wide blank fresh = subst (λ (xs : List (Option B)). R (opening words xs first_view)) (sym is) (
       let n : length (map some (map Some bs)) ≡ length bs = length-map (map Some bs) some ∙ length-map bs Some in
-      let a : Account = record { drawn = λ _. 0; served = λ _. 0; holder = λ _. 0; published = λ _. []; list_of = λ _. []; before = []; joined = [] } in record {
+      let a : Account = record {
+        drawn = λ _. 0;
+        served = λ _. 0;
+        holder = λ _. 0;
+        published = λ _. [];
+        list_of = λ _. [];
+        before = [];
+        joined = [];
+      } in
+      record {
         account = a;
         queue = record {
           wide = wide ∙ ap (λ (m : ℕ). 32 * m) (sym n);
@@ -88,7 +98,8 @@ module _ {B : Type 0} (lines : B → List Line) (place places : B → ℕ) where
           seen = λ j k v e _ _. subst (λ (w : View). Begins (seen_of k w.seen) []) (only_first j v e).1 ([], refl);
         };
         kin = record {
-          root = λ v e. subst (λ (w : View). (living w ≡ 1) × (w.before ≡ []) × (w.joined ≡ [])) (only_first 0 v e).1 (refl, refl, refl);
+          root = λ v e. subst (λ (w : View). (living w ≡ 1) × (w.before ≡ []) × (w.joined ≡ [])) (only_first 0 v e).1
+              (refl, refl, refl);
           counted = refl;
           living_ones = refl;
           kept = tt;
@@ -97,7 +108,8 @@ module _ {B : Type 0} (lines : B → List Line) (place places : B → ℕ) where
         };
       })
 
-  module _ (s : State (Option B) View) (r : R s) (id : ℕ) (v : View) (at : get_elem? s.views id ≡ some v) (number : v.number ≡ 0) (free : v.stage ≡ Free) (all : length v.joined ≡ length v.before) where
+  module _ (s : State (Option B) View) (r : R s) (id : ℕ) (v : View) (at : get_elem? s.views id ≡ some v)
+      (number : v.number ≡ 0) (free : v.stage ≡ Free) (all : length v.joined ≡ length v.before) where
     lives : living v ≡ 1
     lives = ap living_at free
 
@@ -110,9 +122,15 @@ module _ {B : Type 0} (lines : B → List Line) (place places : B → ℕ) where
     -- each other pass was joined
     others_spent : (j : ℕ) (x : View) → get_elem? s.views j ≡ some x → j ≢ 0 → living x ≡ 0
     others_spent j x e other = ⊎_elim (λ z. z) (λ one.
-        let c = r.kin.counted in let d = r.kin.living_ones in let g = total_set living s.views 0 v spent_view at0 in let o = lives in
-        let b : length v.before ≡ length r.account.before = ap (λ (l : List (List ℕ)). length l) root.1 in let m : length v.joined ≡ length r.account.joined = ap (λ (l : List Joined). length l) root.2 in
-        let h = total_at living (set s.views 0 spent_view) j x (set_else s.views 0 j spent_view other ∙ e) in let w = all in absurd (omega arith)) (alive_or_not x.stage)
+        let c = r.kin.counted in
+        let d = r.kin.living_ones in
+        let g = total_set living s.views 0 v spent_view at0 in
+        let o = lives in
+        let b : length v.before ≡ length r.account.before = ap (λ (l : List (List ℕ)). length l) root.1 in
+        let m : length v.joined ≡ length r.account.joined = ap (λ (l : List Joined). length l) root.2 in
+        let h = total_at living (set s.views 0 spent_view) j x (set_else s.views 0 j spent_view other ∙ e) in
+        let w = all in
+        absurd (omega arith)) (alive_or_not x.stage)
 
     pub all_home : (k : ℕ) → k < length s.homes → r.account.holder k ≡ 0
     all_home k near = go (r.account.holder k) refl
@@ -120,21 +138,32 @@ module _ {B : Type 0} (lines : B → List Line) (place places : B → ℕ) where
         go : (h : ℕ) → r.account.holder k ≡ h → r.account.holder k ≡ 0
         go zero e = e
         go (suc j) e = let o = r.queue.out k j near e in dite (ℕ_discrete j 0)
-            (λ z. absurd (subst (IsOpenAt k) (ap (λ (w : View). w.stage) (one_at s.views 0 o.1 v (subst (λ (i : ℕ). get_elem? s.views i ≡ some o.1) z o.2) at0) ∙ free) o.3))
+            (λ z. absurd (subst (IsOpenAt k) (ap (λ (w : View). w.stage)
+            (one_at s.views 0 o.1 v (subst (λ (i : ℕ). get_elem? s.views i ≡ some o.1) z o.2) at0) ∙ free) o.3))
             (λ other. let z = others_spent j o.1 o.2 other in let one = open_lives k o.1.stage o.3 in absurd (omega arith))
 
     lists_are : (i : ℕ) → list_in i v ≡ r.account.list_of i
     lists_are zero = r.tale.own 0 v at0 lives
     lists_are (suc i) = ap (kept_of (suc i)) root.2 ∙ dite (dec_le (length s.views) (suc i))
-        (λ past. kept_none (suc i) r.account.joined (all_map (IsKept r.account (length s.homes) s.views) (λ (x : Joined). x.listed.number ≢ suc i) r.account.joined (λ x h e. let w = h.within in omega arith) r.kin.kept) ∙ sym (r.tale.fresh (suc i) past))
-        (λ inside. let x = within_at s.views (suc i) (omega arith) in r.kin.lists (suc i) x.0 x.1 (others_spent (suc i) x.0 x.1 (λ z. omega arith)))
+        (λ past. kept_none (suc i) r.account.joined
+        (all_map (IsKept r.account (length s.homes) s.views) (λ (x : Joined). x.listed.number ≢ suc i)
+        r.account.joined (λ x h e. let w = h.within in omega arith) r.kin.kept) ∙ sym (r.tale.fresh (suc i) past))
+        (λ inside. let x = within_at s.views (suc i) (omega arith) in
+        r.kin.lists (suc i) x.0 x.1 (others_spent (suc i) x.0 x.1 (λ z. omega arith)))
 
     pub all_kept : AreKept v
-    all_kept = subst (λ (z : List Joined). AllByRecursion (λ (x : Joined). (list_in x.listed.number v ≡ x.listed.lines) × WasTold v.before v.joined x.listed.number x.told) z) (sym root.2)
-        (all_map (IsKept r.account (length s.homes) s.views) (λ (x : Joined). (list_in x.listed.number v ≡ x.listed.lines) × WasTold v.before v.joined x.listed.number x.told) r.account.joined
-        (λ x h. (lists_are x.listed.number ∙ sym h.list, subst (λ (z : List (List ℕ) × List Joined). WasTold z.0 z.1 x.listed.number x.told) (λ i. (sym root.1 i, sym root.2 i)) h.told)) r.kin.kept)
+    all_kept = subst (λ (z : List Joined). AllByRecursion (λ (x : Joined). (list_in x.listed.number v ≡ x.listed.lines)
+        × WasTold v.before v.joined x.listed.number x.told) z) (sym root.2)
+        (all_map (IsKept r.account (length s.homes) s.views) (λ (x : Joined). (list_in x.listed.number v
+        ≡ x.listed.lines) × WasTold v.before v.joined x.listed.number x.told) r.account.joined
+        (λ x h. (
+          lists_are x.listed.number ∙ sym h.list,
+          subst (λ (z : List (List ℕ) × List Joined).
+              WasTold z.0 z.1 x.listed.number x.told) (λ i. (sym root.1 i, sym root.2 i)) h.told,
+        )) r.kin.kept)
 
-    pub last_one : (k : ℕ) → k < length s.homes → (b : B) × (get_elem? s.homes k ≡ some (some (Some b))) × IsLast lines place places (length s.homes) v k b
+    pub last_one : (k : ℕ) → k < length s.homes
+        → (b : B) × (get_elem? s.homes k ≡ some (some (Some b))) × IsLast lines place places (length s.homes) v k b
     last_one k near = let h = r.queue.home k near (all_home k near) in (
       h.0,
       h.1,
@@ -144,15 +173,19 @@ module _ {B : Type 0} (lines : B → List Line) (place places : B → ℕ) where
         parts = λ i. ap (lines_of i) h.4 ∙ (r.tale.parts k i near ∙ ap (part_of k) (sym (lists_are i)));
         seen = subst (Begins (seen_of k v.seen)) (sym h.4) (r.tale.seen 0 k v at0 lives near);
         joined = subst (AllByRecursion (λ (x : Joined). Begins (seen_of k x.seen) (lines h.0))) (sym root.2)
-            (all_map (IsKept r.account (length s.homes) s.views) (λ (x : Joined). Begins (seen_of k x.seen) (lines h.0)) r.account.joined (λ x g. subst (Begins (seen_of k x.seen)) (sym h.4) (g.seen k near)) r.kin.kept);
+            (all_map (IsKept r.account (length s.homes) s.views) (λ (x : Joined). Begins (seen_of k x.seen) (lines h.0))
+            r.account.joined (λ x g. subst (Begins (seen_of k x.seen)) (sym h.4) (g.seen k near)) r.kin.kept);
       },
     )
 
   -- what the slots have at the end
-  pub ends : (id : ℕ) (v : View) (ws : List ℕ) (xs : List (Option B)) → v.number ≡ 0 → v.stage ≡ Free → length v.joined ≡ length v.before → Final (Seen R id v) ws xs
+  pub ends : (id : ℕ) (v : View) (ws : List ℕ) (xs : List (Option B))
+      → v.number ≡ 0 → v.stage ≡ Free → length v.joined ≡ length v.before → Final (Seen R id v) ws xs
       → (k : ℕ) → k < length xs → (b : B) × (get_elem? xs k ≡ some (Some b)) × IsLast lines place places (length xs) v k b
-  ends id v ws xs number free all final k near = let s = final.0 in let o = last_one s final.1.0 id v final.1.1 number free all k (let l = final.3 in omega arith) in
+  ends id v ws xs number free all final k near = let s = final.0 in
+      let o = last_one s final.1.0 id v final.1.1 number free all k (let l = final.3 in omega arith) in
       (o.0, final.4 k (Some o.0) o.1, subst (λ (m : ℕ). IsLast lines place places m v k o.0) final.3 o.2)
 
-  pub ends_kept : (id : ℕ) (v : View) (ws : List ℕ) (xs : List (Option B)) → v.number ≡ 0 → v.stage ≡ Free → length v.joined ≡ length v.before → Final (Seen R id v) ws xs → AreKept v
+  pub ends_kept : (id : ℕ) (v : View) (ws : List ℕ) (xs : List (Option B))
+      → v.number ≡ 0 → v.stage ≡ Free → length v.joined ≡ length v.before → Final (Seen R id v) ws xs → AreKept v
   ends_kept id v ws xs number free all final = all_kept final.0 final.1.0 id v final.1.1 number free all

@@ -21,9 +21,11 @@ take_next (x ∷ xs) zero a e = ap (λ z. z ∷ []) (some-injective x a e)
 take_next (x ∷ xs) (suc k) a e = ap (λ z. x ∷ z) (take_next xs k a e)
 
 -- one more value is back
-pub more_back : {B : Type 0} (items : List (Option B)) (old new : List B) (k : ℕ) (b : B) → map Some old ≡ take k items → get_elem? items k ≡ some (Some b) → new ≡ old ++ b ∷ [] → map Some new ≡ take (k + 1) items
+pub more_back : {B : Type 0} (items : List (Option B)) (old new : List B) (k : ℕ) (b : B) → map Some old ≡ take k items
+    → get_elem? items k ≡ some (Some b) → new ≡ old ++ b ∷ [] → map Some new ≡ take (k + 1) items
 more_back items old new k b so at is =
-    ap (map Some) is ∙ (map-append Some old (b ∷ []) ∙ (ap (λ z. z ++ Some b ∷ []) so ∙ (sym (take_next items k (Some b) at) ∙ ap (λ (n : ℕ). take n items) (sym (add-one k)))))
+    ap (map Some) is ∙ (map-append Some old (b ∷ []) ∙ (ap (λ z. z ++ Some b ∷ []) so
+    ∙ (sym (take_next items k (Some b) at) ∙ ap (λ (n : ℕ). take n items) (sym (add-one k)))))
 
 -- what was taken out of a place is gone
 pub emptied : (fs : List Bool) (k : ℕ) → get_or (set fs k false) k false ≡ false

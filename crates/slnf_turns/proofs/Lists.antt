@@ -53,11 +53,13 @@ module _ {A : Type 0} where
   within_at (x ∷ xs) (suc i) h = within_at xs i (omega arith)
 
   -- an element of a list with one more is an old one, or the last
-  pub at_end : (l : List A) (a : A) (j : ℕ) (x : A) → get_elem? (l ++ a ∷ []) j ≡ some x → (get_elem? l j ≡ some x) ⊎ ((j ≡ length l) × (a ≡ x))
+  pub at_end : (l : List A) (a : A) (j : ℕ) (x : A)
+      → get_elem? (l ++ a ∷ []) j ≡ some x → (get_elem? l j ≡ some x) ⊎ ((j ≡ length l) × (a ≡ x))
   at_end [] a zero x e = inr (refl, some-injective a x e)
   at_end [] a (suc j) x e = absurd (some-ne-none x (sym e))
   at_end (y ∷ ys) a zero x e = inl e
-  at_end (y ∷ ys) a (suc j) x e = ⊎_elim (λ (h : get_elem? ys j ≡ some x). inl h) (λ (h : (j ≡ length ys) × (a ≡ x)). inr (ap suc h.0, h.1)) (at_end ys a j x e)
+  at_end (y ∷ ys) a (suc j) x e = ⊎_elim (λ (h : get_elem? ys j ≡ some x). inl h)
+      (λ (h : (j ≡ length ys) × (a ≡ x)). inr (ap suc h.0, h.1)) (at_end ys a j x e)
 
   pub get_more : (l m : List A) (i : ℕ) (a : A) → slice_get l i ≡ Some a → slice_get (l ++ m) i ≡ Some a
   get_more [] m i a e = absurd (none_not_some a e)
@@ -88,7 +90,8 @@ module _ {A : Type 0} where
   all_last P [] x a = a.0
   all_last P (y ∷ ys) x a = all_last P ys x a.1
 
-pub total_set : (f : View → ℕ) (vs : List View) (i : ℕ) (v w : View) → get_elem? vs i ≡ some v → total f (set vs i w) + f v ≡ total f vs + f w
+pub total_set : (f : View → ℕ) (vs : List View) (i : ℕ) (v w : View)
+    → get_elem? vs i ≡ some v → total f (set vs i w) + f v ≡ total f vs + f w
 total_set f [] i v w e = absurd (some-ne-none v (sym e))
 total_set f (x ∷ xs) zero v w e = let same : f x ≡ f v = ap f (some-injective x v e) in omega arith
 total_set f (x ∷ xs) (suc i) v w e = let h = total_set f xs i v w e in omega arith

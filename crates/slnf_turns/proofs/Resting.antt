@@ -31,7 +31,8 @@ module _ {B : Type 0} where
   pub is_posed : (s : Seat (Option B) View) → s.me.1 ≡ hand_of s.me.0.stage → s ≡ posed s
   is_posed s e = λ i. record s { me = (s.me.0, e i) }
 
-  pub rests_again : (old new : Seat (Option B) View) → new.table_id ≡ old.table_id → new.me.0.stage ≡ old.me.0.stage → new.me.1 ≡ old.me.1 → Rests old → Rests new
+  pub rests_again : (old new : Seat (Option B) View)
+      → new.table_id ≡ old.table_id → new.me.0.stage ≡ old.me.0.stage → new.me.1 ≡ old.me.1 → Rests old → Rests new
   rests_again old new table stage hand r = (
     ap₂ (λ (z : TableId) (st : Stage). is_resting z.slots st) table stage ∙ r.0,
     is_posed new (hand ∙ (in_hand old old.me.0.stage r.1 refl ∙ ap hand_of (sym stage))),
@@ -40,5 +41,10 @@ module _ {B : Type 0} where
   pub rests_free : (s : Seat (Option B) View) → s.me.0.stage ≡ Free → s.me.1 ≡ [] → Rests s
   rests_free s stage hand = (ap (is_resting s.table_id.slots) stage, is_posed s (hand ∙ ap hand_of (sym stage)))
 
-  pub rests_open : (s : Seat (Option B) View) (k t : ℕ) (base : List Line) → s.me.0.stage ≡ Open k t base [] → s.me.1 ≡ (k, None) ∷ [] → k < s.table_id.slots → Rests s
-  rests_open s k t base stage hand inside = (ap (is_resting s.table_id.slots) stage ∙ lt-ltb k s.table_id.slots inside, is_posed s (hand ∙ ap hand_of (sym stage)))
+  pub rests_open : (s : Seat (Option B) View) (k t : ℕ) (base : List Line)
+      → s.me.0.stage ≡ Open k t base [] → s.me.1 ≡ (k, None) ∷ [] → k < s.table_id.slots → Rests s
+  rests_open s k t base stage hand inside = (
+    ap (is_resting s.table_id.slots) stage
+        ∙ lt-ltb k s.table_id.slots inside,
+    is_posed s (hand ∙ ap hand_of (sym stage)),
+  )

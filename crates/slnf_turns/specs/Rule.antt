@@ -100,11 +100,14 @@ module _ {B : Type 0} (lines : B → List Line) (place places : B → ℕ) where
     pub stages : (j : ℕ) (v : View) → get_elem? s.views j ≡ some v → Knows a (length s.homes) j v.stage
     -- each ticket that is out is some pass's, and no two passes have one
     pub owned : (k t : ℕ) → k < length s.homes → a.served k ≤ t → t < a.drawn k → IsOwned s.views k t
-    pub apart : (i j k t : ℕ) (v w : View) → get_elem? s.views i ≡ some v → get_elem? s.views j ≡ some w → HasTicket k t v.stage → HasTicket k t w.stage → i ≡ j
+    pub apart : (i j k t : ℕ) (v w : View) → get_elem? s.views i ≡ some v
+        → get_elem? s.views j ≡ some w → HasTicket k t v.stage → HasTicket k t w.stage → i ≡ j
     -- a shard that nobody has open is at home, with the published lines
-    pub home : (k : ℕ) → k < length s.homes → a.holder k ≡ 0 → (b : B) × (get_elem? s.homes k ≡ some (some (Some b))) × (place b ≡ k) × (places b ≡ length s.homes) × (lines b ≡ a.published k)
+    pub home : (k : ℕ) → k < length s.homes → a.holder k ≡ 0 → (b : B) × (get_elem? s.homes k ≡ some (some (Some b)))
+        × (place b ≡ k) × (places b ≡ length s.homes) × (lines b ≡ a.published k)
     -- one that some pass has open isn't
-    pub out : (k j : ℕ) → k < length s.homes → a.holder k ≡ suc j → (get_elem? s.homes k ≡ some none) × (v : View) × (get_elem? s.views j ≡ some v) × IsOpenAt k v.stage
+    pub out : (k j : ℕ) → k < length s.homes → a.holder k ≡ suc j
+        → (get_elem? s.homes k ≡ some none) × (v : View) × (get_elem? s.views j ≡ some v) × IsOpenAt k v.stage
 
 -- the lines: each number's lines in a shard are that shard's part of its own list, and a number not given has none
 pub record AreListed (a : Account) (n : ℕ) (views : List View) : Type 0 where

@@ -6,9 +6,11 @@ use Rattle.slnf_turns.specs.declared.views.Joined.{Joined}
 use Rattle.slnf_turns.specs.declared.views.View.{View}
 use Rattle.slnf_turns.specs.Views.{Begins, lines_of, part_of, seen_of, WasTold, list_in}
 
--- the list of each joined pass is its number's, and what it kept from its split is what the root keeps as joined before that split
+-- the list of each joined pass is its number's, and what it kept from its split is what the root keeps as joined before
+-- that split
 abbrev pub AreKept : View → Type 0
-AreKept v = AllByRecursion (λ (x : Joined). (list_in x.listed.number v ≡ x.listed.lines) × WasTold v.before v.joined x.listed.number x.told) v.joined
+AreKept v = AllByRecursion (λ (x : Joined). (list_in x.listed.number v ≡ x.listed.lines)
+    × WasTold v.before v.joined x.listed.number x.told) v.joined
 
 module _ {B : Type 0} (lines : B → List Line) (place places : B → ℕ) where
   -- values with empty lists, of which the one at k has place k among n

@@ -55,21 +55,46 @@ listed x = x.listed
 abbrev pub number_of : Listed → ℕ
 number_of x = x.number
 
--- A pass whose number is i kept these numbers with these lists from its split: they are those that the root keeps as joined before that split.
+-- A pass whose number is i kept these numbers with these lists from its split: they are those that the root keeps as
+-- joined before that split.
 abbrev pub WasTold : List (List ℕ) → List Joined → ℕ → List Listed → Type 0
 WasTold before joined i told = (slice_get before (i - 1) ≡ Some (map number_of told)) × Begins told (map listed joined)
 
 -- the view with another stage
 abbrev pub staged : View → Stage → View
-staged v st = record { number = v.number; stage = st; own = v.own; seen = v.seen; told = v.told; before = v.before; joined = v.joined }
+staged v st = record {
+  number = v.number;
+  stage = st;
+  own = v.own;
+  seen = v.seen;
+  told = v.told;
+  before = v.before;
+  joined = v.joined;
+}
 
 -- the view after the shard was opened with the ticket t, where its value had these lines
 abbrev pub after_open : View → ℕ → ℕ → List Line → View
-after_open v k t ls = record { number = v.number; stage = Open k t ls []; own = v.own; seen = sight k ls ∷ v.seen; told = v.told; before = v.before; joined = v.joined }
+after_open v k t ls = record {
+  number = v.number;
+  stage = Open k t ls [];
+  own = v.own;
+  seen = sight k ls ∷ v.seen;
+  told = v.told;
+  before = v.before;
+  joined = v.joined;
+}
 
 -- the view after a value that had the lines base was given back with more
 abbrev pub after_raise : View → ℕ → List Line → List Line → View
-after_raise v k base more = record { number = v.number; stage = Free; own = v.own ++ noted k more; seen = sight k (base ++ more) ∷ v.seen; told = v.told; before = v.before; joined = v.joined }
+after_raise v k base more = record {
+  number = v.number;
+  stage = Free;
+  own = v.own ++ noted k more;
+  seen = sight k (base ++ more) ∷ v.seen;
+  told = v.told;
+  before = v.before;
+  joined = v.joined;
+}
 
 abbrev pub newcomer : ℕ → List Listed → View
 newcomer i told = record { number = i; stage = Free; own = []; seen = []; told = told; before = []; joined = [] }
@@ -80,7 +105,15 @@ first_view = newcomer 0 []
 
 -- the root after a split, and the pass that it split off
 abbrev pub after_split : View → View
-after_split v = record { number = v.number; stage = v.stage; own = v.own; seen = v.seen; told = v.told; before = v.before ++ map (λ (x : Joined). x.listed.number) v.joined ∷ []; joined = v.joined }
+after_split v = record {
+  number = v.number;
+  stage = v.stage;
+  own = v.own;
+  seen = v.seen;
+  told = v.told;
+  before = v.before ++ map (λ (x : Joined). x.listed.number) v.joined ∷ [];
+  joined = v.joined;
+}
 
 abbrev pub split_off : View → View
 split_off v = newcomer (length v.before + 1) (map listed v.joined)
@@ -90,7 +123,15 @@ abbrev pub joined_of : View → Joined
 joined_of w = record { listed = record { number = w.number; lines = w.own }; seen = w.seen; told = w.told }
 
 abbrev pub after_join : View → View → View
-after_join v w = record { number = v.number; stage = v.stage; own = v.own; seen = v.seen; told = v.told; before = v.before; joined = v.joined ++ joined_of w ∷ [] }
+after_join v w = record {
+  number = v.number;
+  stage = v.stage;
+  own = v.own;
+  seen = v.seen;
+  told = v.told;
+  before = v.before;
+  joined = v.joined ++ joined_of w ∷ [];
+}
 
 abbrev pub spent_view : View
 spent_view = record { number = 0; stage = Spent; own = []; seen = []; told = []; before = []; joined = [] }

@@ -11,15 +11,18 @@ use Rattle.slnf_view.specs.Field.{word_at}
 use Rattle.slnf_view.specs.View.{ip_of, datagram_of, is_not_ipv4, is_fragment, is_short, header_length, transport_length, headers_length, proto_of, packet_of, viewed, view_of, IsViewOf, LiesWithin}
 
 -- a test that came before an answer went the other way
-passed : (test : Bool) (reason : Reason) (rest : Result View Reason) (view : View) → cond test (Err reason) rest ≡ Ok view → (test ≡ false) × (rest ≡ Ok view)
+passed : (test : Bool) (reason : Reason) (rest : Result View Reason) (view : View)
+    → cond test (Err reason) rest ≡ Ok view → (test ≡ false) × (rest ≡ Ok view)
 passed true reason rest view h = absurd (cc)
 passed false reason rest view h = (refl, h)
 
 -- the headers of a datagram that isn't short
-whole : (p : List ℕ) → is_short p ≡ false → (20 ≤ header_length p) × (headers_length p ≤ length p) × (headers_length p ≤ word_at p 2)
+whole : (p : List ℕ) → is_short p ≡ false
+    → (20 ≤ header_length p) × (headers_length p ≤ length p) × (headers_length p ≤ word_at p 2)
 whole p h = (grind (arith, nat_tests), grind (arith, nat_tests), grind (arith, nat_tests))
 
-lies : (frame : List ℕ) (ip : ℕ) (proto : Option Proto) (view : View) → proto_of (drop ip frame) ≡ proto → is_short (drop ip frame) ≡ false → viewed ip (drop ip frame) proto ≡ Ok view → LiesWithin frame view
+lies : (frame : List ℕ) (ip : ℕ) (proto : Option Proto) (view : View) → proto_of (drop ip frame) ≡ proto
+    → is_short (drop ip frame) ≡ false → viewed ip (drop ip frame) proto ≡ Ok view → LiesWithin frame view
 lies frame ip None view chosen fits h = absurd (cc)
 lies frame ip (Some proto) view chosen fits h =
     let p = drop ip frame in
@@ -32,7 +35,8 @@ lies frame ip (Some proto) view chosen fits h =
     let after : ip + 3 ≡ ip + 2 + 1 = omega arith in
     let total : word_at p 2 ≡ word_at frame (ip + 2) =
     omega (arith, high, low, ap (λ (place : ℕ). get_or frame place 0) after) in
-    subst (LiesWithin frame) seen (record { header = omega arith; transport = omega (arith, length-drop ip frame); total = omega arith })
+    subst (LiesWithin frame) seen
+    (record { header = omega arith; transport = omega (arith, length-drop ip frame); total = omega arith })
 
 -- a view is the view of the frame that it was made from
 pub view_of-is_view : (link : Link) (frame : List ℕ) (view : View) → view_of link frame ≡ Ok view → IsViewOf frame view

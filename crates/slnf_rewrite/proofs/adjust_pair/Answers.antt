@@ -7,5 +7,6 @@ pub returns : goal.returns
 returns c =
     let pair = c.args.pair in
     let frame = c.args.frame.now in
-    let last = adjusted-push c.args.check (address_changes frame c.args.side.address pair.addr) (word_at frame c.args.side.port) pair.port in
+    let last = adjusted-push c.args.check (address_changes frame c.args.side.address pair.addr)
+    (word_at frame c.args.side.port) pair.port in
     cc

@@ -8,11 +8,13 @@ returns-in-Tcp-clause-verifies c =
     let frame = c.args.frame.now in
     let side = c.args.side in
     let bytes = All-from_get_or (λ (byte : ℕ). byte < 256) frame 0 (λ i inside. omega (arith, c.type_inv.frame i)) in
-    pair_transport frame c.args.view.now bytes c.requires.lies side.address side.port c.requires.side c.args.pair c.requires.numbers
+    pair_transport frame c.args.view.now bytes c.requires.lies
+    side.address side.port c.requires.side c.args.pair c.requires.numbers
 
 pub returns-in-Udp-2-clause-verifies : goal.returns-in-Udp-2-clause-verifies
 returns-in-Udp-2-clause-verifies c =
     let frame = c.args.frame.now in
     let side = c.args.side in
     let bytes = All-from_get_or (λ (byte : ℕ). byte < 256) frame 0 (λ i inside. omega (arith, c.type_inv.frame i)) in
-    pair_transport frame c.args.view.now bytes c.requires.lies side.address side.port c.requires.side c.args.pair c.requires.numbers
+    pair_transport frame c.args.view.now bytes c.requires.lies
+    side.address side.port c.requires.side c.args.pair c.requires.numbers

@@ -19,7 +19,8 @@ loop-lane-preserved c =
     let so = c.loop-lane.invariant in
     let made = c.in_ok-capture.ensures in
     record {
-      captures = captures-more (λ (capture : Vec ℕ Global). capture.items) (lane_capture c.args.number c.args.packets) _ _ _ _ so.captures
+      captures = captures-more (λ (capture : Vec ℕ Global). capture.items)
+          (lane_capture c.args.number c.args.packets) _ _ _ _ so.captures
           (made.bytes ∙ ap (λ s. capture_from s c.args.packets) so.drawn) c.in_ok-push.ensures.items;
       drawn = state_after-lane _ _ _ _ _ so.drawn made.words;
     }

@@ -7,6 +7,7 @@ use Rattle.slnf_gen.proofs.load.make_load.Given as goal
 
 abbrev pub invariant-loop-lane : goal.invariant-loop-lane
 invariant-loop-lane l = record {
-  captures : map (λ capture. capture.items) l.captures.items ≡ map (lane_capture l.fn.number l.fn.packets) (range_with_len 0 l.lane);
+  captures : map (λ capture. capture.items) l.captures.items ≡ map (lane_capture l.fn.number l.fn.packets)
+      (range_with_len 0 l.lane);
   drawn : l.words ≡ state_after (l.lane * l.fn.packets) l.fn.number;
 }

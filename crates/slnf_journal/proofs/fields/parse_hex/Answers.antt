@@ -6,4 +6,5 @@ pub overflow_mul-number : goal.overflow_mul-number
 overflow_mul-number c = omega (arith, sixteens c.loop-byte.byte-index (omega arith), c.loop-byte.invariant.small)
 
 pub overflow_add-number : goal.overflow_add-number
-overflow_add-number c = omega (arith, sixteens c.loop-byte.byte-index (omega arith), c.loop-byte.invariant.small, c.in-Some.ensures.below)
+overflow_add-number c =
+    omega (arith, sixteens c.loop-byte.byte-index (omega arith), c.loop-byte.invariant.small, c.in-Some.ensures.below)

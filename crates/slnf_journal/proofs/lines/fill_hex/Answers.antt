@@ -5,7 +5,8 @@ use Rattle.slnf_journal.specs.Words.{hex_digit, hex_text}
 use Rattle.slnf_journal.proofs.lines.fill_hex.Goals as goal
 
 -- one more digit, at the end of those that are left
-hex_text-step : (place number : ℕ) → 0 < place → hex_text place number ≡ hex_text (place - 1) (number / 16) ++ hex_digit (number % 16) ∷ []
+hex_text-step : (place number : ℕ)
+    → 0 < place → hex_text place number ≡ hex_text (place - 1) (number / 16) ++ hex_digit (number % 16) ∷ []
 unfolding hex_text
 hex_text-step zero number h = absurd (omega arith)
 hex_text-step (suc place) number h =
@@ -13,7 +14,9 @@ hex_text-step (suc place) number h =
     ap (λ p. hex_text p (number / 16) ++ hex_digit (number % 16) ∷ []) e
 
 -- one digit written before those that are there
-written-step : (place left digit : ℕ) (digits text : List ℕ) → 0 < place → place ≤ length digits → digit ≡ hex_digit (left % 16) → hex_text place left ++ drop place digits ≡ text → hex_text (place - 1) (left / 16) ++ drop (place - 1) (set digits (place - 1) digit) ≡ text
+written-step : (place left digit : ℕ) (digits text : List ℕ) → 0 < place
+    → place ≤ length digits → digit ≡ hex_digit (left % 16) → hex_text place left ++ drop place digits ≡ text
+    → hex_text (place - 1) (left / 16) ++ drop (place - 1) (set digits (place - 1) digit) ≡ text
 written-step place left digit digits text some within is written =
     let before = hex_text (place - 1) (left / 16) in
     let lt : place - 1 < length digits = omega arith in
@@ -26,7 +29,8 @@ written-step place left digit digits text some within is written =
     ∙ ap (λ front. front ++ drop place digits) (sym e3) ∙ written
 
 -- no digit is left
-all_written : (place left : ℕ) (digits text : List ℕ) → place ≤ 0 → hex_text place left ++ drop place digits ≡ text → digits ≡ text
+all_written : (place left : ℕ) (digits text : List ℕ)
+    → place ≤ 0 → hex_text place left ++ drop place digits ≡ text → digits ≡ text
 unfolding hex_text
 all_written zero left digits text none written = written
 all_written (suc place) left digits text none written = absurd (omega arith)

@@ -8,13 +8,15 @@ use Rattle.slnf_journal.proofs.read.read_lines.Goals as goal
 pub returns-in-None-clause-err : goal.returns-in-None-clause-err
 returns-in-None-clause-err c = λ _.
     sym c.loop-at.invariant.rest
-    ∙ step-torn One c.loop-at.line c.loop-at.at c.args.body.now _ c.loop-at.entries.items c.loop-at-test.true (take_rest c.args.body.now c.loop-at.at) c.in-None.ensures
+    ∙ step-torn One c.loop-at.line c.loop-at.at c.args.body.now _ c.loop-at.entries.items c.loop-at-test.true
+    (take_rest c.args.body.now c.loop-at.at) c.in-None.ensures
 
 pub returns-in_err-entry-clause-err : goal.returns-in_err-entry-clause-err
 returns-in_err-entry-clause-err c =
     let p = err_from_is_err_and c.from_residual.result c.from_residual.ensures.1 in
     rw p.1 (λ _. sym c.loop-at.invariant.rest
-    ∙ step-bad One c.loop-at.line c.loop-at.at c.in-Some.len c.args.body.now _ c.loop-at.entries.items c.in_err-entry.field-0.0 (take_rest c.args.body.now c.loop-at.at) c.in-Some.ensures (sym c.in_err-entry.ensures)
+    ∙ step-bad One c.loop-at.line c.loop-at.at c.in-Some.len c.args.body.now _ c.loop-at.entries.items
+    c.in_err-entry.field-0.0 (take_rest c.args.body.now c.loop-at.at) c.in-Some.ensures (sym c.in_err-entry.ensures)
     ∙ ap Err (sym p.2))
 
 pub loop-at-preserved : goal.loop-at-preserved
@@ -25,10 +27,12 @@ loop-at-preserved c =
       place = omega (arith, c.in-Some.ensures.0, ap length (take_rest body at), length-drop at body);
       few = omega (arith, c.loop-at.invariant.few);
       rest = rw c.in_ok-push.ensures.items
-          (step-entry One c.loop-at.line at c.in-Some.len body _ c.loop-at.entries.items c.in_ok-entry.entry (take_rest body at) c.in-Some.ensures (sym c.in_ok-entry.ensures)
+          (step-entry One c.loop-at.line at c.in-Some.len body _ c.loop-at.entries.items c.in_ok-entry.entry
+          (take_rest body at) c.in-Some.ensures (sym c.in_ok-entry.ensures)
           ∙ c.loop-at.invariant.rest);
     }
 
 pub returns-clause-ok : goal.returns-clause-ok
 returns-clause-ok c =
-    sym c.loop-at.invariant.rest ∙ step-end One c.loop-at.line c.loop-at.at c.args.body.now c.loop-at.entries.items c.loop-at-test.false
+    sym c.loop-at.invariant.rest
+    ∙ step-end One c.loop-at.line c.loop-at.at c.args.body.now c.loop-at.entries.items c.loop-at-test.false

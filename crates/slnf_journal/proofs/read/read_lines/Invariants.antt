@@ -10,7 +10,8 @@ abbrev pub invariant-loop-at : goal.invariant-loop-at
 invariant-loop-at l = record {
   place : l.at ≤ length l.body;
   few : l.line ≤ l.at + 2;
-  rest : with_front l.entries.items (entries_in One l.line (parts_at 10 (drop l.at l.body))) ≡ entries_in One 2 (parts_at 10 l.body);
+  rest : with_front l.entries.items (entries_in One l.line (parts_at 10 (drop l.at l.body))) ≡ entries_in One 2
+      (parts_at 10 l.body);
 }
 
 abbrev pub decreases-loop-at : goal.decreases-loop-at

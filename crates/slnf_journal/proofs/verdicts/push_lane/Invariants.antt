@@ -4,4 +4,5 @@ use Rattle.slnf_journal.specs.Verdicts.{lane_text}
 use Rattle.slnf_journal.proofs.verdicts.push_lane.Given as goal
 
 abbrev pub invariant-loop-number : goal.invariant-loop-number
-invariant-loop-number l = l.lines ++ lane_text l.lane l.number (drop l.number l.verdicts) ≡ l.fn.lines ++ lane_text l.lane 0 l.verdicts
+invariant-loop-number l =
+    l.lines ++ lane_text l.lane l.number (drop l.number l.verdicts) ≡ l.fn.lines ++ lane_text l.lane 0 l.verdicts

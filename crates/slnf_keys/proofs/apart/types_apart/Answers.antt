@@ -9,7 +9,10 @@ pub returns : goal.returns
 returns c =
     let flow : IsFlowKey c.args.flow = record { addr_fits = search rules; port_fits = search rules } in
     let port : IsPortKey c.args.port = record { addr_fits = search rules; port_fits = search rules } in
-    let conn : IsConnKey c.args.conn = (record { addr_fits = search rules; port_fits = search rules }, record { addr_fits = search rules; port_fits = search rules }) in
+    let conn : IsConnKey c.args.conn = (
+      record { addr_fits = search rules; port_fits = search rules },
+      record { addr_fits = search rules; port_fits = search rules },
+    ) in
     let pin : IsPinKey c.args.pin = record { addr_fits = search rules; port_fits = search rules } in
     let flow_tag = flow_key_number-tag c.args.flow flow in
     let port_tag = port_key_number-tag c.args.port port in

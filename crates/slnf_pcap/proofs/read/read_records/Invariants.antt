@@ -9,7 +9,8 @@ abbrev pub invariant-loop-at : goal.invariant-loop-at
 invariant-loop-at l = record {
   place : l.at ≤ length l.bytes;
   few : vec_len l.packets ≤ 1048576;
-  rest : with_front l.packets.items (records_from l.big (1048576 - vec_len l.packets) l.at (drop l.at l.bytes)) ≡ records_from l.big 1048576 24 (drop 24 l.bytes);
+  rest : with_front l.packets.items (records_from l.big (1048576 - vec_len l.packets) l.at (drop l.at l.bytes))
+      ≡ records_from l.big 1048576 24 (drop 24 l.bytes);
   lie : All (LiesIn l.bytes) l.packets.items;
   parts : take l.at l.bytes ≡ take 24 l.bytes ++ flat_map (record_bytes l.bytes) l.packets.items;
 }

@@ -13,7 +13,8 @@ pub returns-in-Firewall-clause-fits : goal.returns-in-Firewall-clause-fits
 unfolding function_row
 returns-in-Firewall-clause-fits c =
     let ms = table_view c.args.table.now in
-    given_ok plain_function (λ f. fits_function f ≡ true) c.required-in-Firewall.result (function_row kinds.Firewall ms) (fits_of kinds.Firewall ms) c.required-in-Firewall.ensures
+    given_ok plain_function (λ f. fits_function f ≡ true) c.required-in-Firewall.result
+    (function_row kinds.Firewall ms) (fits_of kinds.Firewall ms) c.required-in-Firewall.ensures
 
 pub returns-in_ok-service-in-Balancer-clause-fits : goal.returns-in_ok-service-in-Balancer-clause-fits
 unfolding function_row

@@ -7,5 +7,6 @@ use Rattle.slnf_plan.proofs.instances.instances.Given as goal
 abbrev pub invariant-loop-value : goal.invariant-loop-value
 invariant-loop-value l = record {
   count : length l.items.items ≡ l.value-index;
-  so_far : elements instance_table l.items.items (items_view (drop l.value-index l.values)) ≡ elements instance_table [] (items_view l.values);
+  so_far : elements instance_table l.items.items
+      (items_view (drop l.value-index l.values)) ≡ elements instance_table [] (items_view l.values);
 }

@@ -6,5 +6,6 @@ use Rattle.slnf_plan.proofs.lists.elements.Given as goal
 abbrev pub invariant-loop-value : goal.invariant-loop-value
 invariant-loop-value g l = record {
   count : length l.items.items ≡ l.value-index;
-  so_far : elements (λ _. g.K.Kind.reads l.element) (map g.K.Kind.plain l.items.items) (items_view (drop l.value-index l.values)) ≡ elements (λ _. g.K.Kind.reads l.element) [] (items_view l.values);
+  so_far : elements (λ _. g.K.Kind.reads l.element) (map g.K.Kind.plain l.items.items)
+      (items_view (drop l.value-index l.values)) ≡ elements (λ _. g.K.Kind.reads l.element) [] (items_view l.values);
 }

@@ -11,7 +11,8 @@ use Rattle.slnf_plan.proofs.reader.read_plan.Goals as goal
 pub returns-in-Err-clause-refused : goal.returns-in-Err-clause-refused
 returns-in-Err-clause-refused c =
     let other : IsMemory c.in-Err.error → ⊥ = λ memory. true≢false (sym (c.is_memory.ensures.1 memory) ∙ c.if-is_memory.false) in
-    rw (c.from_string.ensures, c.new.ensures.bytes) (bytes_not_toml c.args.bytes.now (λ utf8. c.in-Err.ensures.refused other utf8))
+    rw (c.from_string.ensures, c.new.ensures.bytes)
+    (bytes_not_toml c.args.bytes.now (λ utf8. c.in-Err.ensures.refused other utf8))
 
 pub returns-in-Ok-plan_of-clause-plan : goal.returns-in-Ok-plan_of-clause-plan
 returns-in-Ok-plan_of-clause-plan c =
@@ -23,4 +24,5 @@ returns-clause-refused c =
     let ok = c.in-Ok.ensures.ok in
     let refusal = c.in-Err-Refused.refusal in
     let refused = rw c.in-Err-Refused.field-0-is at c.in-Err-Refused.ensures in
-    rw c.error_of.ensures (refuses_at (plan_of_bytes c.args.bytes.now) refusal.cause (unwrap_or refusal.path []) (bytes_refused c.args.bytes.now (table_view c.in-Ok.table) refusal ok.0 ok.1 refused))
+    rw c.error_of.ensures (refuses_at (plan_of_bytes c.args.bytes.now) refusal.cause
+    (unwrap_or refusal.path []) (bytes_refused c.args.bytes.now (table_view c.in-Ok.table) refusal ok.0 ok.1 refused))

@@ -7,13 +7,15 @@ pub returns-in-Some-clause-ok : goal.returns-in-Some-clause-ok
 returns-in-Some-clause-ok c =
     let place = rw c.as_slice.ensures.value at (sym c.in-Some.ensures) in
     find_file-put c.args.name.now c.args.bytes c.args.files.now.items _
-    (with_file-at c.args.name.now c.args.bytes c.args.files.now.items c.in-Some.place c.index_mut.result.now place c.index_mut.ensures.value)
+    (with_file-at c.args.name.now c.args.bytes c.args.files.now.items
+    c.in-Some.place c.index_mut.result.now place c.index_mut.ensures.value)
 
 pub returns-in-Some-clause-others : goal.returns-in-Some-clause-others
 returns-in-Some-clause-others c =
     let place = rw c.as_slice.ensures.value at (sym c.in-Some.ensures) in
     KeepsOthers-put c.args.name.now c.args.bytes c.args.files.now.items _
-    (with_file-at c.args.name.now c.args.bytes c.args.files.now.items c.in-Some.place c.index_mut.result.now place c.index_mut.ensures.value)
+    (with_file-at c.args.name.now c.args.bytes c.args.files.now.items
+    c.in-Some.place c.index_mut.result.now place c.index_mut.ensures.value)
 
 pub returns-in_ok-push-in-None-clause-ok : goal.returns-in_ok-push-in-None-clause-ok
 returns-in_ok-push-in-None-clause-ok c =

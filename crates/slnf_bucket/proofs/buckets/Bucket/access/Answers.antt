@@ -12,10 +12,22 @@ invariant_of-self-2 c =
     let bucket = c.self.inside in
     let cells = get nat_eq bucket.held in
     let new = get nat_eq c.hold.new.held in
-    let kept : Kept = record { shard = bucket.shard; shards = bucket.shards; clock = bucket.clock; entries = bucket.entries.items } in
+    let kept : Kept = record {
+      shard = bucket.shard;
+      shards = bucket.shards;
+      clock = bucket.clock;
+      entries = bucket.entries.items;
+    } in
     let request = c.args.request in
     let stamp = c.max-latest.result + 1 in
-    let e : Entry = record { stamp = stamp; shard = bucket.shard; incarnation = c.args.incarnation; item = c.args.item; request = request; reply = c.reply-reply.result } in
+    let e : Entry = record {
+      stamp = stamp;
+      shard = bucket.shard;
+      incarnation = c.args.incarnation;
+      item = c.args.item;
+      request = request;
+      reply = c.reply-reply.result;
+    } in
     let items : c.push.new.self.items ≡ bucket.entries.items ++ e ∷ [] = search rules in
     let key : c.key-key.result.0 ≡ key_of request = c.key-key.ensures in
     let was : c.copied-held.result ≡ cells (key_of request) = search rules in

@@ -10,13 +10,16 @@ use Rattle.slnf_shelf.proofs.memory.MemoryShelfShelf.read.Goals as goal
 
 pub returns-in-None-clause-counts : goal.returns-in-None-clause-counts
 returns-in-None-clause-counts c =
-    let moved : List Fault → Type 0 = λ faults. Moves (Only Read c.args.name.now) (fault_count faults) (fault_count c.note_fault.new.faults.items) in
+    let moved : List Fault → Type 0 =
+    λ faults. Moves (Only Read c.args.name.now) (fault_count faults) (fault_count c.note_fault.new.faults.items) in
     Moves-then _ _ (fault_count c.enter.new.self.faults) _ c.in_ok-enter.ensures.counts
     (subst moved (ap (λ (memory : Memory). memory.faults) c.self.view_is) c.note_fault.ensures.counts)
 
 pub returns-in-None-clause-cause : goal.returns-in-None-clause-cause
 returns-in-None-clause-cause c = λ failed.
-    let rose : List Fault → Type 0 = λ faults. Rose Read c.args.name.now (fault_count faults) (fault_count c.note_fault.new.faults.items) in
+    let rose : List Fault → Type 0 =
+    λ faults. Rose Read c.args.name.now (fault_count faults) (fault_count c.note_fault.new.faults.items) in
     let same : c.note_fault.result ≡ Failed = cc in
-    Rose-after _ Read c.args.name.now (fault_count c.args.self.now.faults) (fault_count c.enter.new.self.faults) (fault_count c.note_fault.new.faults.items) c.in_ok-enter.ensures.counts
+    Rose-after _ Read c.args.name.now (fault_count c.args.self.now.faults)
+    (fault_count c.enter.new.self.faults) (fault_count c.note_fault.new.faults.items) c.in_ok-enter.ensures.counts
     (subst rose (ap (λ (memory : Memory). memory.faults) c.self.view_is) (c.note_fault.ensures.cause same))
