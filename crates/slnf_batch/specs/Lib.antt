@@ -1,2 +1,2 @@
-pub mod Cut
+pub mod Firsts
 pub mod Order

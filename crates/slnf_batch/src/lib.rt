@@ -1,8 +1,8 @@
-//! Batches: how many next packets make one, and in which order a round asks.
+//! Batches: whether the next packet joins one, and in which order a round asks.
 #![tactic(auto)]
 
-mod cuts;
+mod firsts;
 mod groups;
 
-pub use cuts::cut;
+pub use firsts::joins;
 pub use groups::group;

@@ -1,5 +1,5 @@
 -- Batches that are taken one after another until an item flies.
-use Rattle.std.proofs.Common.{◌≡◌, ℕ, zero, suc, ◌+◌, ◌-◌, ◌<◌, ◌≤◌, Bool, true, false, if◌then◌else◌, List, [], ◌∷◌, Option, Some, None, length, map, refl, sym, ap, ap₂, ◌∙◌, subst, arith, inl, inr}
+use Rattle.std.proofs.Common.{◌≡◌, ℕ, zero, suc, ◌+◌, ◌-◌, ◌<◌, ◌≤◌, true, false, if◌then◌else◌, List, [], ◌∷◌, Option, Some, None, length, refl, sym, ap, ap₂, ◌∙◌, subst, arith, inl, inr}
 use Rattle.std.specs.List.{range_with_len}
 use Rattle.slnf_access.specs.Machines.{Stand, Flies, Ends}
 use Rattle.slnf_run.specs.Jobs.{Job, joining, first_in, offers_in}
@@ -7,7 +7,7 @@ use Rattle.slnf_instance.specs.Works.{flight_at, flights_at}
 use Rattle.slnf_local.specs.Hands.{Item, batch_in_hand, items_in, some_fly as items_fly}
 use Rattle.slnf_local.specs.Cuts.{items_at, IsDealt}
 use Rattle.slnf_local.proofs.Cuts.{IsCutOff, cut_off, next_cut}
-use Rattle.slnf_hand.specs.Reached.{Reached, offers_from, some_fly, AreItems, IsTaken, IsDealtTo, IsFlying, IsThrough, Rests, next_in, end_of}
+use Rattle.slnf_hand.specs.Reached.{Reached, offers_from, some_fly, AreItems, IsTaken, IsDealtTo, Rests, next_in, end_of}
 
 -- the code's flights are those of the items
 pub fly_same : {F : Type 0} (from : ℕ) (items : List (Item F)) (flights : List (Option F)) →

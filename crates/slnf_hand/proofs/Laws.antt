@@ -1,14 +1,13 @@
 -- What is known of an actor that stands for a follower's hand.
-use Rattle.std.proofs.Common.{◌≡◌, ◌⊎◌, inl, inr, ℕ, suc, ◌+◌, ◌-◌, Bool, true, false, ◌||◌, ◌==◌, if◌then◌else◌, List, [], ◌∷◌, Option, Some, None, IsTrue, length, refl, sym, ap, ap₂, ◌∙◌, arith, ne_eqb}
+use Rattle.std.proofs.Common.{◌≡◌, ◌⊎◌, inl, inr, ℕ, suc, ◌+◌, ◌-◌, Bool, true, false, ◌||◌, ◌==◌, if◌then◌else◌, List, [], ◌∷◌, Option, IsTrue, length, refl, sym, ap, ◌∙◌, arith, ne_eqb}
 use Rattle.std.specs.List.{range_with_len}
 use Rattle.std.proofs.lemmas.Bool.{cond_both}
 use Rattle.std.proofs.lemmas.List.FromFn.{length-range_with_len}
 use Rattle.slnf_run.specs.Jobs.{Offer, Job, joins, with_key, batched, first_in, offers_in}
 use Rattle.slnf_instance.specs.Items.{Workload}
-use Rattle.slnf_instance.specs.Errands.{job_in}
 use Rattle.slnf_instance.specs.Hands.{is_spent}
 use Rattle.slnf_local.specs.Hands.{Hand as Held, is_no_batch}
-use Rattle.slnf_hand.specs.Reached.{Reached, some_fly, Rests, Holds, has_ended, taken_by}
+use Rattle.slnf_hand.specs.Reached.{some_fly, Rests, has_ended, taken_by}
 use Rattle.slnf_hand.specs.Hands.{Followed, is_over, taken, IsHandOf}
 use Rattle.slnf_hand.proofs.Dealing.{fly_same}
 use Rattle.slnf_hand.proofs.Taking.{spent_is}

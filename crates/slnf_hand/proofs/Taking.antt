@@ -1,6 +1,6 @@
 -- What an entry makes of a reached.
 use Rattle.std.proofs.Common.{◌≡◌, ◌⊎◌, ℕ, zero, suc, ◌+◌, ◌-◌, ◌<◌, ◌≤◌, Bool, true, false, ◌==◌, ◌||◌, nat_lt, nat_le, if◌then◌else◌, List, [], ◌∷◌, Option, Some, None, IsTrue, length, set, slice_get, refl, sym, ap, ap₂, ◌∙◌, subst, subst₂, arith, inl, inr, eq-eqb, ne_eqb}
-use Rattle.std.proofs.lemmas.Bool.{cases_eq, cases_lt, cond-true, cond-false, cond_both}
+use Rattle.std.proofs.lemmas.Bool.{cases_eq, cond-true, cond-false, cond_both}
 use Rattle.std.proofs.lemmas.Option.{same_Some, none-some}
 use Rattle.std.proofs.lemmas.Bool.Decides.{nat_tests}
 use Rattle.slnf_access.specs.declared.requests.Entry.{Entry}
@@ -9,8 +9,8 @@ use Rattle.slnf_access.specs.Machines.{Machine, Stand, Flies, Ends, stand_step, 
 use Rattle.slnf_run.specs.Jobs.{Job, Offer, offers_in, is_stop}
 use Rattle.slnf_instance.specs.Works.{flight_at}
 use Rattle.slnf_instance.specs.Hands.{is_spent, one_less}
-use Rattle.slnf_local.specs.Hands.{Hand as Held, Item, batch_in_hand, items_in, stand_in, IsAskedIn, items_after, some_fly as items_fly, up_to, later_than, hand_at, hand_with, hand_go, hand_after}
-use Rattle.slnf_hand.specs.Reached.{Reached, offers_from, some_fly, place_in, AsksFor, AreItems, IsLeft, IsFlying, IsThrough, Rests, next_in, end_of, IsDealtTo, DealsOn, Holds, Expects, IsSettled}
+use Rattle.slnf_local.specs.Hands.{Hand as Held, Item, batch_in_hand, items_in, stand_in, IsAskedIn, items_after, some_fly as items_fly, up_to, hand_with, hand_go, hand_after}
+use Rattle.slnf_hand.specs.Reached.{Reached, offers_from, some_fly, place_in, AsksFor, AreItems, IsLeft, IsFlying, Rests, next_in, end_of, IsDealtTo, Holds, Expects, IsSettled}
 use Rattle.slnf_hand.proofs.Dealing.{fly_same}
 
 -- no entry is left exactly where the actor is stopped

@@ -28,11 +28,11 @@ taken_of progress = (if is_spent progress.left then progress.through else progre
 
 -- There is room for a batch, and the actor is within its errand.
 pub record Fits {F : Type 0} (progress : Progress F) : Type 0 where
-  pub flights_room : 32 ≤ vec_capacity progress.flights
-  pub firsts_room : 32 ≤ vec_capacity progress.firsts
+  pub flights_room : progress.errand.batch ≤ vec_capacity progress.flights
+  pub firsts_room : progress.errand.batch ≤ vec_capacity progress.firsts
   pub from : progress.errand.at ≤ progress.from
   pub inside : progress.from + vec_len progress.flights ≤ progress.errand.end
-  pub few : vec_len progress.flights ≤ 32
+  pub few : vec_len progress.flights ≤ progress.errand.batch
   pub begun : progress.errand.at ≤ progress.through
   pub through : progress.through ≤ progress.errand.end
 

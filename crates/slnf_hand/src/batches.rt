@@ -1,70 +1,32 @@
-ghost use Rattle.std.specs.Prelude.{◌≡◌, ◌+◌, ◌-◌, ◌^◌, ◌<◌, ◌≤◌, [], length, map, vec_len, vec_capacity};
-ghost use Rattle.std.specs.List.{range_with_len};
-ghost use Rattle.slnf_batch.specs.Cut.{number_of};
-ghost use Rattle.slnf_run.specs.Jobs.{first_key_of, first_in};
-ghost use Rattle.slnf_instance.specs.Items.{stand_of_standing};
-ghost use Rattle.slnf_instance.specs.Works.{flight_at, flights_at};
+ghost use Rattle.std.specs.Prelude.{◌≡◌, ◌+◌, ◌<◌, ◌≤◌, [], length, vec_capacity};
 ghost use Rattle.slnf_instance.specs.Errands.{job_in, IsErrand};
+ghost use Rattle.slnf_instance.specs.Batches.{IsTaking, IsWhole};
 ghost use Rattle.slnf_hand.specs.Reached.{IsTaken, DealsOn};
 ghost use Rattle.slnf_hand.specs.Progress.{reached, Fits, IsSameCount};
 
 use crate::progress::{Progress, some_fly};
 use slnf_access::Key;
-use slnf_batch::cut;
-use slnf_instance::{Errand, Items, Standing};
+use slnf_instance::{Errand, Items, begin_next};
 
-/// The key of an item's first access. One that ends at once has none.
-fn first_key<T: Items>(items: &T, standing: &Standing<T::Flight>) -> Option<Key>
-    ensures { number_of result ≡ first_key_of (T.work items.now).machine (stand_of_standing standing.now) }
-{
-    match standing {
-        Standing::Flying(flight) => Some(items.next(flight).key()),
-        Standing::Ended(_) => None,
-    }
-}
-
-/// The flight of an item that begins so.
-fn first_flight<F: Drop>(standing: Standing<F>) -> Option<F>
-    ensures { result ≡ flight_at (stand_of_standing standing) }
-{
-    match standing {
-        Standing::Flying(flight) => Some(flight),
-        Standing::Ended(_) => None,
-    }
-}
-
-/// Begins so many items from this one on.
+/// Takes all items from this one on that join a batch.
 fn begin_all<T: Items>(
     items: &T,
     errand: &Errand,
     from: usize,
-    size: usize,
     flights: &mut Vec<Option<T::Flight>>,
     firsts: &mut Vec<Option<Key>>,
 )
     requires errand { IsErrand (T.work items.now).count errand.now }
-    requires inside { from + size ≤ errand.now.end }
-    requires few { size ≤ 32 }
-    requires flights { flights.old.items ≡ [] }
-    requires firsts { firsts.old.items ≡ [] }
-    requires flights_room { 32 ≤ vec_capacity flights.old }
-    requires firsts_room { 32 ≤ vec_capacity firsts.old }
-    ensures flights { flights.new.items ≡ flights_at (T.work items.now).begins from size }
-    ensures firsts { map number_of firsts.new.items
-        ≡ map (first_in (job_in (T.work items.now) errand.now)) (range_with_len from size) }
-    ensures count { vec_len flights.new ≡ size }
-    ensures firsts_count { vec_len firsts.new ≡ size }
-    ensures flights_room { 32 ≤ vec_capacity flights.new }
-    ensures firsts_room { 32 ≤ vec_capacity firsts.new }
+    requires from { errand.now.at ≤ from }
+    requires taking { IsTaking (job_in (T.work items.now) errand.now) from flights.old.items firsts.old.items }
+    requires flights_room { errand.now.batch ≤ vec_capacity flights.old }
+    requires firsts_room { errand.now.batch ≤ vec_capacity firsts.old }
+    ensures taking { IsTaking (job_in (T.work items.now) errand.now) from flights.new.items firsts.new.items }
+    ensures whole { IsWhole (job_in (T.work items.now) errand.now) from flights.new.items }
+    ensures flights_room { errand.now.batch ≤ vec_capacity flights.new }
+    ensures firsts_room { errand.now.batch ≤ vec_capacity firsts.new }
 {
-    let mut done = 0;
-    while done < size {
-        let number = from + done;
-        let standing = items.begin(number);
-        firsts.push(first_key(items, &standing)).unwrap();
-        flights.push(first_flight(standing)).unwrap();
-        done += 1;
-    }
+    while begin_next(items, errand, from, flights, firsts).is_some() {}
 }
 
 /// Takes the next batch in hand, where items are left.
@@ -78,22 +40,16 @@ fn take_batch<T: Items>(items: &T, progress: &mut Progress<T::Flight>)
         (reached progress.new) }
     ensures some { 0 < length progress.new.flights.items }
 {
-    let errand = progress.errand;
-    let from = progress.from + progress.flights.len();
-    let window = errand.batch.min(errand.end - from);
-    progress.from = from;
+    progress.from += progress.flights.len();
     progress.flights.clear();
     progress.firsts.clear();
     begin_all(
         items,
-        &errand,
-        from,
-        window,
+        &progress.errand,
+        progress.from,
         &mut progress.flights,
         &mut progress.firsts,
     );
-    let size = cut(progress.firsts.as_slice());
-    progress.flights.truncate(size);
 }
 
 /// Takes batches until an item flies. There is none in hand where no items are left.

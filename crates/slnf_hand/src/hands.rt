@@ -25,8 +25,8 @@ fn make_progress<F: Drop>(alloc: Global, errand: Errand) -> Result<Progress<F>, 
         left: errand.stop,
         through: errand.at,
         from: errand.at,
-        flights: Vec::with_capacity(alloc, 32)?,
-        firsts: Vec::with_capacity(alloc, 32)?,
+        flights: Vec::with_capacity(alloc, errand.batch)?,
+        firsts: Vec::with_capacity(alloc, errand.batch)?,
     })
 }
 

@@ -1,18 +1,13 @@
 -- What the code's steps do to its lists.
-use Rattle.std.proofs.Common.{◌≡◌, ◌⊎◌, inl, inr, ℕ, zero, suc, ◌+◌, ◌-◌, ◌<◌, ◌≤◌, if◌then◌else◌, List, [], ◌∷◌, ◌++◌, Option, Some, Ok, Result, length, get_or, set, map, take, drop, slice_get, refl, sym, ap, ap₂, ◌∙◌, arith, min, Bool, true, false, ◌==◌}
-use Rattle.std.specs.List.{range_with_len}
+use Rattle.std.proofs.Common.{◌≡◌, inl, inr, ℕ, suc, ◌+◌, ◌-◌, ◌<◌, ◌≤◌, if◌then◌else◌, List, [], ◌∷◌, ◌++◌, Option, Some, Ok, Result, length, get_or, set, take, drop, slice_get, refl, sym, ap, ap₂, ◌∙◌, arith, Bool, true, false, ◌==◌}
 use Rattle.std.specs.Result.{is_ok}
 use Rattle.std.proofs.lemmas.Bool.{cases_lt, cases_eq}
 use Rattle.std.proofs.lemmas.Bool.Decides.{nat_tests}
-use Rattle.std.proofs.lemmas.List.{map-append, get_or-set_same, get_or-set_other, drop_all, take_all, append-nil, drop-drop, length-drop}
-use Rattle.std.proofs.lemmas.List.FromFn.{map-range_with_len_more, take-map-range_with_len, length-map-range_with_len}
+use Rattle.std.proofs.lemmas.List.{get_or-set_same, get_or-set_other, drop_all, take_all, append-nil, drop-drop, length-drop}
+use Rattle.std.proofs.lemmas.List.FromFn.{map-range_with_len_more}
 use Rattle.std.proofs.lemmas.Option.{slice_get-get_or, slice_get_within, same_Some}
 use Rattle.slnf_base.specs.declared.packets.Verdict.{Verdict}
-use Rattle.slnf_access.specs.declared.requests.Key.{Key}
 use Rattle.slnf_access.specs.Machines.{Stand}
-use Rattle.slnf_batch.specs.Cut.{number_of}
-use Rattle.slnf_run.specs.Jobs.{joining}
-use Rattle.slnf_run.proofs.Batches.{joining_takes, joining-map, joining_window}
 use Rattle.slnf_instance.specs.Works.{flight_at, flights_at}
 use Rattle.slnf_instance.specs.Hands.{AreBegun}
 
@@ -25,13 +20,6 @@ pub flights_more : {F : Type 0} (stand : ℕ → Stand F) (from n item : ℕ) (f
     flight ≡ flight_at (stand item) → from + n ≡ item → after ≡ flights_at stand from (n + 1)
 flights_more stand from n item flights after flight h more is q =
     more ∙ (ap₂ (λ fs f. fs ++ f ∷ []) h is ∙ sym (map-range_with_len_more (λ i. flight_at (stand i)) from n item q))
-
-pub firsts_more : (first : ℕ → Option ℕ) (from n item : ℕ) (firsts after : List (Option Key)) (key : Option Key) →
-    map number_of firsts ≡ map first (range_with_len from n) → after ≡ firsts ++ key ∷ [] →
-    number_of key ≡ first item → from + n ≡ item → map number_of after ≡ map first (range_with_len from (n + 1))
-firsts_more first from n item firsts after key h more is q =
-    ap (map number_of) more ∙ (map-append number_of firsts (key ∷ [])
-    ∙ (ap₂ (λ fs f. fs ++ f ∷ []) h is ∙ sym (map-range_with_len_more first from n item q)))
 
 pub begun_none : (f : ℕ → Verdict) (at from : ℕ) (xs : List Verdict) → AreBegun f at from 0 xs xs
 begun_none f at from xs = record { earlier = λ k d l. refl; begins = λ item d l u. absurd (omega arith) }
@@ -53,38 +41,6 @@ begun_more f at from n old mid v l h inside is = record {
 pub pushed_len : {U E : Type 0} (n m : ℕ) (result : Result U E) (u : U) → n ≡ (if is_ok result then m + 1 else m) →
     result ≡ Ok u → n ≡ m + 1
 pushed_len n m result u h e = h ∙ ap (λ r. if is_ok r then m + 1 else m) e
-
-pub begun_fewer : (f : ℕ → Verdict) (at from n c : ℕ) (old new : List Verdict) → c ≤ n →
-    AreBegun f at from n old new → AreBegun f at from c old new
-begun_fewer f at from n c old new l h =
-    record { earlier = h.earlier; begins = λ item d a u. h.begins item d a (omega arith) }
-
--- what the code cuts of the next items that a batch has room for is what joins it of all that are left
-pub cut_is : (limit : ℕ) (first : ℕ → Option ℕ) (from left window c : ℕ) (firsts : List (Option Key)) →
-    window ≡ min limit left → map number_of firsts ≡ map first (range_with_len from window) →
-    c ≡ joining limit number_of 0 [] firsts → c ≡ joining limit first 0 [] (range_with_len from left)
-cut_is limit first from left window c firsts w n h =
-    let within : window ≤ left = omega arith in
-    let room : (limit ≤ 0 + window) ⊎ (window ≡ left) =
-    elim (cases_lt left limit) [ inl l ↦ inr (omega arith) | inr l ↦ inl (omega arith) ] in
-    h ∙ (sym (joining-map limit (λ key. key) number_of 0 [] firsts)
-    ∙ (ap (joining limit (λ key. key) 0 []) n
-    ∙ (joining-map limit (λ key. key) first 0 [] (range_with_len from window)
-    ∙ sym (joining_window limit first 0 [] from left window within room))))
-
-pub cut_some : (limit : ℕ) (first : ℕ → Option ℕ) (from left : ℕ) → 0 < limit → 0 < left →
-    0 < joining limit first 0 [] (range_with_len from left)
-cut_some limit first from zero l m = absurd (omega arith)
-cut_some limit first from (suc left) l m = joining_takes limit first from (range_with_len (from + 1) left) l
-
-pub flights_fewer : {F : Type 0} (stand : ℕ → Stand F) (from n c : ℕ) (flights after : List (Option F)) →
-    flights ≡ flights_at stand from n → after ≡ take c flights → c ≤ n →
-    (length after ≡ c) × (after ≡ flights_at stand from (length after))
-flights_fewer stand from n c flights after h is l =
-    let e : after ≡ flights_at stand from c =
-    is ∙ (ap (take c) h ∙ take-map-range_with_len (λ i. flight_at (stand i)) from n c l) in
-    let k : length after ≡ c = ap length e ∙ length-map-range_with_len (λ i. flight_at (stand i)) from c in
-    (k, e ∙ ap (flights_at stand from) (sym k))
 
 -- a vector that is written as a whole
 pub written_all : {X : Type 0} (n : ℕ) (xs ys : List X) → length ys ≡ length xs → n ≡ length xs →

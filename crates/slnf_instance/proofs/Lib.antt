@@ -7,5 +7,6 @@ mod Finishing
 mod Going
 mod Opening
 mod Stepping
+pub mod Taking
 mod Until
 mod Wanting

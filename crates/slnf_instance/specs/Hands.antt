@@ -18,13 +18,13 @@ use Rattle.slnf_instance.specs.Works.{flights_at, IsLeftOf, HasBatch, IsBetween,
 
 -- The hand has room for a batch, and is within its errand.
 pub record Fits {F : Type 0} (hand : Hand F) : Type 0 where
-  pub flights_room : 32 ≤ vec_capacity hand.flights
-  pub firsts_room : 32 ≤ vec_capacity hand.firsts
-  pub asks_room : 32 ≤ vec_capacity hand.asks
+  pub flights_room : hand.errand.batch ≤ vec_capacity hand.flights
+  pub firsts_room : hand.errand.batch ≤ vec_capacity hand.firsts
+  pub asks_room : hand.errand.batch ≤ vec_capacity hand.asks
   pub given : vec_len hand.verdicts + hand.errand.at ≡ hand.errand.end
   pub from : hand.errand.at ≤ hand.from
   pub inside : hand.from + vec_len hand.flights ≤ hand.errand.end
-  pub few : vec_len hand.flights ≤ 32
+  pub few : vec_len hand.flights ≤ hand.errand.batch
 
 -- The hand has the same errand, and as many accesses are left.
 pub record IsSameErrand {F : Type 0} (old new : Hand F) : Type 0 where

@@ -27,9 +27,9 @@ fn make_hand<F: Drop>(alloc: Global, errand: Errand) -> Result<Hand<F>, NoMemory
         errand,
         left: errand.stop,
         from: errand.at,
-        flights: Vec::with_capacity(alloc, 32)?,
-        firsts: Vec::with_capacity(alloc, 32)?,
-        asks: Vec::with_capacity(alloc, 32)?,
+        flights: Vec::with_capacity(alloc, errand.batch)?,
+        firsts: Vec::with_capacity(alloc, errand.batch)?,
+        asks: Vec::with_capacity(alloc, errand.batch)?,
         place: 0,
         verdicts: vec![in alloc; Verdict::Lost; errand.end - errand.at]?,
     })

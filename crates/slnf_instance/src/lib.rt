@@ -12,6 +12,7 @@ mod rounds;
 #[cfg(test)]
 mod tests;
 
+pub use batches::begin_next;
 pub use endings::{Ending, Work};
 pub use errands::Errand;
 pub use instances::Instance;

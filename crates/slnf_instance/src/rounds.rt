@@ -29,11 +29,10 @@ fn add_ask<T: Items>(items: &T, item: u64, flight: &Option<T::Flight>, asks: &mu
 /// What all items ask that fly, the first of which has this number.
 fn ask_all<T: Items>(items: &T, from: u64, flights: &[Option<T::Flight>], asks: &mut Vec<Ask>)
     requires none { asks.old.items ≡ [] }
-    requires few { length flights.now ≤ 32 }
-    requires room { 32 ≤ vec_capacity asks.old }
+    requires room { length flights.now ≤ vec_capacity asks.old }
     requires inside { from + length flights.now < 18446744073709551616 }
     ensures asks { asks.new.items ≡ asks_of (T.work items.now).machine.asks from flights.now }
-    ensures room { 32 ≤ vec_capacity asks.new }
+    ensures room { vec_capacity asks.old ≤ vec_capacity asks.new }
 {
     let mut done = 0;
     while done < flights.len() {

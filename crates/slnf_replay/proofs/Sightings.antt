@@ -117,7 +117,8 @@ module _ (plan : Plan) (lanes : List Lane) (j : List Entry) (n : ℕ) (e : Entry
 pub on_lane : (lane : ℕ) (actor : Actor) → is_on lane actor ≡ true → actor.lane ≡ Some lane
 on_lane lane actor h = go actor.lane refl h
   where
-    go : (o : Option ℕ) → actor.lane ≡ o → elim o [ None ↦ false | Some own ↦ Rattle.std.proofs.Common.◌==◌ own lane ] ≡ true → actor.lane
+    go : (o : Option ℕ) → actor.lane ≡ o →
+        elim o [ None ↦ false | Some own ↦ Rattle.std.proofs.Common.◌==◌ own lane ] ≡ true → actor.lane
         ≡ Some lane
     go None w k = absurd (cc)
     go (Some own) w k = w ∙ ap Some (eqb-true own lane k)

@@ -9,7 +9,8 @@ use Rattle.slnf_crew.proofs.crews.epoch_of.Goals as goal
 
 pub returns-clause-there : goal.returns-clause-there
 returns-clause-there c =
-    at_index c.args.plan.now.epochs c.as_slice.result.now c.args.number c.index-as_slice-number.result c.as_slice.ensures c.requires
+    at_index c.args.plan.now.epochs c.as_slice.result.now
+    c.args.number c.index-as_slice-number.result c.as_slice.ensures c.requires
     c.index-as_slice-number.is
 
 pub returns-clause-actors : goal.returns-clause-actors

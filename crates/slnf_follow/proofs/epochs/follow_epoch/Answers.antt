@@ -36,7 +36,7 @@ begun c =
     let function = c.in_ok-function.function in
     let at = c.epoch_of-epoch.ensures.there in
     let of : IsFunctionOf plan.function (Some epoch) function =
-    subst (λ o. IsFunctionOf plan.function o function) at c.in_ok-function.ensures in
+    subst (λ o. IsFunctionOf plan.function o function) at c.in_ok-function.ensures.function in
     let first : AreFirst plan epoch places c.in_ok-items.items.items c.in_ok-hands.hands.items =
     subst₂ (λ p l. AreFirst plan epoch (come_to p) l c.in_ok-hands.hands.items) c.as_slice-places.ensures.value
     c.as_slice.ensures.value c.in_ok-hands.ensures in
@@ -65,7 +65,7 @@ pub items_of-requires-clause-sweep : goal.items_of-requires-clause-sweep
 items_of-requires-clause-sweep c =
     c.epoch_of-epoch.ensures.sweep c.in_ok-function.function
     (subst (λ o. IsFunctionOf c.args.plan.now.function o c.in_ok-function.function) c.epoch_of-epoch.ensures.there
-    c.in_ok-function.ensures)
+    c.in_ok-function.ensures.function)
 
 pub first_hands-requires : goal.first_hands-requires
 first_hands-requires c = record {

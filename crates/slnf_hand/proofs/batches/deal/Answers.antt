@@ -1,10 +1,10 @@
 -- the next batch is taken, and one of its items flies or none does
-use Rattle.std.proofs.Common.{◌≡◌, ◌+◌, ◌-◌, ◌<◌, ◌≤◌, [], length, arith, ap, ◌∙◌, sym, subst}
+use Rattle.std.proofs.Common.{◌+◌, arith, ap, ◌∙◌, sym, subst}
 use Rattle.slnf_run.specs.Jobs.{Job, offers_in}
 use Rattle.slnf_instance.specs.declared.errands.Errand.{Errand}
 use Rattle.slnf_instance.specs.Errands.{job_in}
 use Rattle.slnf_local.specs.Hands.{items_in}
-use Rattle.slnf_hand.specs.Reached.{some_fly, IsTaken, Rests, next_in, end_of}
+use Rattle.slnf_hand.specs.Reached.{some_fly, IsTaken, Rests}
 use Rattle.slnf_hand.specs.Progress.{reached}
 use Rattle.slnf_hand.proofs.Dealing.{takes, taken_flies, taken_ends, none_left}
 use Rattle.slnf_hand.proofs.batches.deal.Goals as goal

@@ -1,9 +1,9 @@
 -- the first batch of which an item flies is in hand
-use Rattle.std.proofs.Common.{refl, subst}
+use Rattle.std.proofs.Common.{subst}
 use Rattle.slnf_instance.specs.Errands.{job_in}
 use Rattle.slnf_hand.specs.Reached.{DealsOn}
 use Rattle.slnf_hand.specs.Progress.{reached}
-use Rattle.slnf_hand.proofs.Setting.{first_spent, first_dealt}
+use Rattle.slnf_hand.proofs.Setting.{first_dealt}
 use Rattle.slnf_hand.proofs.hands.set_out.Goals as goal
 
 pub returns : goal.returns

@@ -1,9 +1,8 @@
 -- the entry is asked for, or not
-use Rattle.std.proofs.Common.{◌≡◌, ◌+◌, ◌<◌, Some, true, false, length, slice_get, arith, refl, sym, ap, subst, ◌∙◌}
+use Rattle.std.proofs.Common.{◌≡◌, Some, false, arith, refl, sym, ap, subst, ◌∙◌}
 use Rattle.std.proofs.lemmas.Option.{slice_get-get_or}
 use Rattle.slnf_access.specs.Map.{CanReply}
 use Rattle.slnf_instance.specs.Errands.{job_in}
-use Rattle.slnf_hand.specs.Reached.{place_in}
 use Rattle.slnf_hand.specs.Progress.{reached}
 use Rattle.slnf_hand.proofs.Taking.{place_some, place_none, asked_expects, expects_asked, outside_unexpected, spent_expects, entry_taken, flight_of}
 use Rattle.slnf_hand.proofs.progress.take_entry.Goals as goal

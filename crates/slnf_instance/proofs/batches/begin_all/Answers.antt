@@ -1,40 +1,37 @@
--- one item more has begun
-use Rattle.std.proofs.Common.{◌+◌, arith, ap, ◌∙◌}
-use Rattle.slnf_run.specs.Parts.{first_key_of}
+-- one item more is taken, and its verdict is in its place
+use Rattle.std.proofs.Common.{◌≡◌, ◌+◌, ◌∷◌, [], length, length-append, arith, ap, ◌∙◌}
 use Rattle.slnf_run.specs.Verdicts.{verdict_at}
-use Rattle.slnf_run.specs.Jobs.{first_in}
-use Rattle.slnf_instance.specs.Works.{flight_at}
-use Rattle.slnf_instance.specs.Errands.{job_in}
-use Rattle.slnf_instance.proofs.Coding.{pushed, pushed_len, flights_more, firsts_more, begun_more}
+use Rattle.slnf_instance.proofs.Taking.{begun_next}
 use Rattle.slnf_instance.proofs.batches.begin_all.Goals as goal
 
-pub loop-done-preserved : goal.loop-done-preserved
-loop-done-preserved g c =
-    let inv = c.loop-done.invariant in
+pub loop-verdict-preserved : goal.loop-verdict-preserved
+loop-verdict-preserved g c =
+    let inv = c.loop-verdict.invariant in
     let begins = (g.T.Items.work c.args.items.now).begins in
-    let machine = (g.T.Items.work c.args.items.now).machine in
-    let number = c.args.from + c.loop-done.done in
-    let stand = c.begin-standing.ensures in
+    let took = c.begin_next.ensures.took c.in-Some.verdict c.in-Some.is in
+    let taking = c.begin_next.ensures.taking in
+    let flights = c.loop-verdict.flights.items in
+    let more : length c.begin_next.new.flights.items ≡ length flights + 1 =
+    ap length took.flights ∙ length-append flights (_ ∷ []) in
+    let len = c.begin_next.new.flights.ok.0 in
     record {
-      upto = omega (arith, c.loop-done-test.true);
-      flights = flights_more (begins) c.args.from c.loop-done.done number _ _ _ inv.flights
-          (pushed _ _ _ _ _ c.push-in-loop-done.ensures.items c.unwrap-in-loop-done.ensures)
-          (c.first_flight.ensures ∙ ap flight_at stand) (omega arith);
-      firsts =
-          firsts_more (first_in (job_in (g.T.Items.work c.args.items.now) c.args.errand.now)) c.args.from
-          c.loop-done.done number _ _ _ inv.firsts
-          (pushed _ _ _ _ _ c.push.ensures.items c.unwrap.ensures)
-          (c.first_key.ensures ∙ ap (first_key_of machine) stand) (omega arith);
+      taking = taking;
       verdicts =
-          begun_more (λ item. verdict_at (begins item)) c.args.errand.now.at c.args.from c.loop-done.done
-          c.args.verdicts.now.items c.loop-done.verdicts.items c.first_verdict.result
-          c.requires.from inv.verdicts (omega
-          (arith, inv.given, c.requires.verdicts, c.requires.inside, c.loop-done-test.true))
-          (c.first_verdict.ensures ∙ ap verdict_at stand);
-      count = pushed_len _ _ _ _ c.push-in-loop-done.ensures.len c.unwrap-in-loop-done.ensures
-          ∙ ap (λ n. n + 1) inv.count;
-      firsts_count = pushed_len _ _ _ _ c.push.ensures.len c.unwrap.ensures ∙ ap (λ n. n + 1) inv.firsts_count;
-      given = inv.given;
-      flights_room = omega (arith, inv.flights_room, c.push-in-loop-done.ensures.capacity);
-      firsts_room = omega (arith, inv.firsts_room, c.push.ensures.capacity);
+          begun_next (λ item. verdict_at (begins item)) c.args.errand.now.at c.args.from (length flights) _ _ _
+          c.loop-verdict.verdicts c.in-Some.verdict c.requires.from inv.verdicts
+          (omega (
+            arith,
+            more,
+            len,
+            c.len.ensures,
+            taking.inside,
+            taking.count,
+            c.loop-verdict.auto.verdicts,
+            c.requires.verdicts,
+            c.requires.from,
+            c.requires.errand.end,
+          ))
+          took.verdict_is (omega (arith, more, len, c.len.ensures, c.requires.from)) more;
+      flights_room = omega (arith, inv.flights_room, c.begin_next.ensures.flights_room);
+      firsts_room = omega (arith, inv.firsts_room, c.begin_next.ensures.firsts_room);
     }

@@ -13,7 +13,7 @@ add_ask-requires g c =
     let front = length-take-le c.loop-done.done c.args.flights.now inv.upto in
     let count = ap length inv.asks in
     let len = c.loop-done.asks.ok.0 in
-    omega (arith, few, front, count, len, inv.room, c.requires.few, c.loop-done-test.true)
+    omega (arith, few, front, count, len, inv.room, c.requires.room, c.loop-done-test.true)
 
 pub loop-done-preserved : goal.loop-done-preserved
 loop-done-preserved g c =

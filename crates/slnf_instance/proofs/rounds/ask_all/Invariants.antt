@@ -7,7 +7,7 @@ abbrev pub invariant-loop-done : goal.invariant-loop-done
 invariant-loop-done g l = record {
   upto : l.done ≤ length l.flights;
   asks : l.asks.items ≡ asks_of (g.T.Items.work l.items).machine.asks l.from (take l.done l.flights);
-  room : 32 ≤ vec_capacity l.asks;
+  room : vec_capacity l.fn.asks ≤ vec_capacity l.asks;
 }
 
 abbrev pub decreases-loop-done : goal.decreases-loop-done

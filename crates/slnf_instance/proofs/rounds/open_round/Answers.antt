@@ -15,7 +15,7 @@ group-requires-clause-few g c =
     ∙ (c.ask_all.ensures.asks ∙ ap (asks_of (g.T.Items.work c.args.items.now).machine.asks hand.from)
     c.as_slice.ensures.value)) in
     let len = hand.flights.ok.0 in
-    omega (arith, few, asks, len, c.requires.fits.few)
+    omega (arith, few, asks, len, c.requires.fits.few, c.requires.errand.most)
 
 pub group-requires-clause-distinct : goal.group-requires-clause-distinct
 group-requires-clause-distinct g c =

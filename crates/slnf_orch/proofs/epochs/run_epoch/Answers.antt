@@ -24,7 +24,7 @@ pub items_of-requires-clause-sweep : goal.items_of-requires-clause-sweep
 items_of-requires-clause-sweep c =
     c.epoch_of-epoch.ensures.sweep c.in_ok-function.function
     (subst (λ o. IsFunctionOf c.args.plan.now.function o c.in_ok-function.function) c.epoch_of-epoch.ensures.there
-    c.in_ok-function.ensures)
+    c.in_ok-function.ensures.function)
 
 pub crew_of-requires : goal.crew_of-requires
 crew_of-requires c = record {
@@ -64,7 +64,7 @@ turns_by-requires-clause-room c =
     (λ k actor work.
     c.actors_have_jobs.ensures plan lanes c.args.number c.args.base epoch c.in_ok-function.function
     (places_in c.args.ledger.now) k actor work at h.base_is
-    (subst (λ o. IsFunctionOf plan.function o c.in_ok-function.function) at c.in_ok-function.ensures))
+    (subst (λ o. IsFunctionOf plan.function o c.in_ok-function.function) at c.in_ok-function.ensures.function))
     (c.in_ok-crew.ensures.hired c.in_ok-function.function lanes c.args.base
     (λ k item actor item_at actor_at. c.in_ok-items.ensures.each k item actor
     (ap (λ l. slice_get l k) (sym c.as_slice.ensures.value) ∙ item_at) actor_at)) crew_count len
@@ -98,7 +98,7 @@ returns-clause-under_way c =
     (λ k actor work.
     c.actors_have_jobs.ensures plan lanes c.args.number c.args.base epoch c.in_ok-function.function
     (places_in c.args.ledger.now) k actor work at h.base_is
-    (subst (λ o. IsFunctionOf plan.function o c.in_ok-function.function) at c.in_ok-function.ensures))
+    (subst (λ o. IsFunctionOf plan.function o c.in_ok-function.function) at c.in_ok-function.ensures.function))
     (c.in_ok-crew.ensures.hired c.in_ok-function.function lanes c.args.base
     (λ k item actor item_at actor_at. c.in_ok-items.ensures.each k item actor
     (ap (λ l. slice_get l k) (sym c.as_slice.ensures.value) ∙ item_at) actor_at)) crew_count len

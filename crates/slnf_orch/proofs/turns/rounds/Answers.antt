@@ -43,6 +43,7 @@ returns-clause-idle g c =
 
 pub returns-clause-done : goal.returns-clause-done
 returns-clause-done g c stage m h =
-    gone-last g.T.Items.work stage m c.loop-shards.live.items _ (none_at_end c.loop-shards.live.items (vec_len c.loop-shards.live) c.is_empty.result
+    gone-last g.T.Items.work stage m c.loop-shards.live.items _
+    (none_at_end c.loop-shards.live.items (vec_len c.loop-shards.live) c.is_empty.result
     (omega (arith, c.loop-shards.live.ok)) c.is_empty.ensures c.loop-shards-test.false)
     (c.loop-shards.invariant.turned stage m h)

@@ -1,8 +1,6 @@
 -- the hand is that of an actor before its first entry
-use Rattle.std.proofs.Common.{ap, sym, subst}
-use Rattle.slnf_run.specs.Jobs.{offers_in}
+use Rattle.std.proofs.Common.{ap}
 use Rattle.slnf_instance.specs.Errands.{job_in}
-use Rattle.slnf_local.specs.Hands.{hand_first}
 use Rattle.slnf_hand.proofs.hands.Hand.make.Goals as goal
 
 pub returns : goal.returns

@@ -1,5 +1,5 @@
 -- the actor's next entry
-use Rattle.std.proofs.Common.{◌≡◌, ◌∙◌, IsTrue, ap, sym, subst}
+use Rattle.std.proofs.Common.{◌≡◌, ◌∙◌, IsTrue, ap, subst}
 use Rattle.slnf_run.specs.Jobs.{offers_in}
 use Rattle.slnf_instance.specs.Errands.{job_in}
 use Rattle.slnf_local.specs.Hands.{hand_after}
