@@ -51,6 +51,10 @@ same_texts (one ∷ ones) (other ∷ others) agree sizes =
     ∙ ap (λ found. option_map suc found)
     (same_texts ones others (tails_agree (length ones) one other ones others agree) (omega (arith, sizes)))
 
+-- a text and itself
+pub one_text : (bytes : List ℕ) → None ≡ first_other_byte bytes bytes
+one_text bytes = sym (same_texts bytes bytes (λ i below. refl) refl)
+
 -- the less of two lengths is one of them
 pub least : (most one other : ℕ) → most ≡ min one other → (one ≤ most) ⊎ (other ≤ most)
 least most one other is = elim (cases_lt one other) [

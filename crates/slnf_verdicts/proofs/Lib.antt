@@ -1,5 +1,6 @@
 mod Tables
 mod Partings
+mod Alone
 mod Numbers
 mod Following
 mod BatchEnds

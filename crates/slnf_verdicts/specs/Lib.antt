@@ -1,4 +1,5 @@
 pub mod Tables
+pub mod Parts
 pub mod Standings
 pub mod Batches
 pub mod Given

@@ -7,9 +7,9 @@ ghost use Rattle.slnf_flight.specs.Lanes.{AreFew, packets_on};
 ghost use Rattle.slnf_flight.specs.PlanSetting.{setting_of};
 ghost use Rattle.slnf_verdicts.specs.Given.{given_in, given_from, or_left, filled};
 ghost use Rattle.slnf_verdicts.specs.Standings.{IsFollowed};
-ghost use Rattle.slnf_verdicts.specs.Tables.{lists, list_at};
+ghost use Rattle.slnf_verdicts.specs.Parts.{part_in};
 
-use crate::parts::part_at;
+use crate::parts::{Parts, part_at};
 use crate::replays::replay_instance;
 use slnf_access::Entry;
 use slnf_base::{NoMemory, Row, Verdict};
@@ -35,7 +35,7 @@ fn add_epoch(
     alloc: Global,
     plan: &Plan,
     lanes: &[Lane],
-    parts: &[Vec<Entry>],
+    parts: &Parts<'_>,
     number: usize,
     base: usize,
     lane: u32,
@@ -46,10 +46,10 @@ fn add_epoch(
     requires base { base ≡ base_of (eras_of plan.now.epochs) number }
     requires few_bases { base ≤ 33000 }
     requires followed { (i : ℕ) → IsFollowed ((setting_of plan.now lanes.now).scene.machine i)
-        ((setting_of plan.now lanes.now).scene.begins i) (list_at (lists parts.now) i) }
+        ((setting_of plan.now lanes.now).scene.begins i) (part_in parts.now i) }
     ensures { OnOk result ((epoch : Epoch) → slice_get plan.now.epochs number ≡ Some epoch
         → row.new.items ≡ row.old.items
-        ++ given_in (setting_of plan.now lanes.now) (λ i. list_at (lists parts.now) i) lane (length row.old.items)
+        ++ given_in (setting_of plan.now lanes.now) (λ i. part_in parts.now i) lane (length row.old.items)
         base
         (era_of_epoch epoch).actors) }
 {
@@ -92,14 +92,14 @@ pub(crate) fn row_of(
     alloc: Global,
     plan: &Plan,
     lanes: &[Lane],
-    parts: &[Vec<Entry>],
+    parts: &Parts<'_>,
     lane: u32,
 ) -> Result<Row<Verdict>, NoMemory>
     requires few { AreFew lanes.now }
     requires followed { (i : ℕ) → IsFollowed ((setting_of plan.now lanes.now).scene.machine i)
-        ((setting_of plan.now lanes.now).scene.begins i) (list_at (lists parts.now) i) }
+        ((setting_of plan.now lanes.now).scene.begins i) (part_in parts.now i) }
     ensures { IfOk result (λ row. row
-        ≡ filled (given_from (setting_of plan.now lanes.now) (λ i. list_at (lists parts.now) i) lane 0 0
+        ≡ filled (given_from (setting_of plan.now lanes.now) (λ i. part_in parts.now i) lane 0 0
         (eras_of plan.now.epochs))
         (length (packets_on lanes.now lane))) }
 {

@@ -29,7 +29,7 @@ pub fn verdicts_of(
     let parts = parts_of(alloc, journal)?;
     let mut rows = Vec::new(alloc);
     for lane in 0..lanes.len() {
-        let row = row_of(alloc, plan, lanes, parts.as_slice(), lane as u32)?;
+        let row = row_of(alloc, plan, lanes, &parts, lane as u32)?;
         rows.push(row)?;
     }
     Ok(Row::from_vec(rows))

@@ -11,7 +11,7 @@ use Rattle.slnf_run.specs.Jobs.{job_of}
 use Rattle.slnf_flight.specs.Actors.{instance_actor}
 use Rattle.slnf_flight.specs.PlanSetting.{setting_of}
 use Rattle.slnf_verdicts.specs.Given.{verdicts_in}
-use Rattle.slnf_verdicts.specs.Tables.{lists, list_at}
+use Rattle.slnf_verdicts.specs.Parts.{part_in}
 use Rattle.slnf_verdicts.proofs.GivenNext.{instance_next, on_gives, off_gives, instances_end}
 use Rattle.slnf_verdicts.proofs.PlanJobs.{begins_there}
 use Rattle.slnf_verdicts.proofs.rows.add_epoch.Goals as goal
@@ -40,7 +40,7 @@ replay_instance-requires-clause-begins c item =
 pub loop-k-preserved : goal.loop-k-preserved
 loop-k-preserved c =
     let s = setting_of c.args.plan.now c.args.lanes.now in
-    let parts : ℕ → List Entry = λ i. list_at (lists c.args.parts.now) i in
+    let parts : ℕ → List Entry = λ i. part_in c.args.parts.now i in
     let instances = c.as_slice-instances.result.now in
     let instance : InstancePlan = get_or instances c.loop-k.k any_instance in
     let at = c.len-at.result in
@@ -72,7 +72,7 @@ returns c epoch there =
     same_Some read epoch (ap (λ e. Some e) (c.index-as_slice-number.is
     ∙ ap (λ l. get_or l c.args.number read) c.as_slice.ensures)
     ∙ (sym (slice_get-get_or epochs c.args.number read (omega arith)) ∙ there)) in
-    instances_end (setting_of c.args.plan.now c.args.lanes.now) (λ i. list_at (lists c.args.parts.now) i) c.args.lane
+    instances_end (setting_of c.args.plan.now c.args.lanes.now) (λ i. part_in c.args.parts.now i) c.args.lane
     c.len-at.result c.args.base c.loop-k.k epoch c.as_slice-instances.result.now c.loop-k.row.items
     c.args.row.now.items
     (c.as_slice-instances.ensures ∙ (ap (λ (e : Epoch). e.instances) (sym c.index-as_slice-number.is)

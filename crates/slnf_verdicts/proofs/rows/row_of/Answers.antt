@@ -7,7 +7,7 @@ use Rattle.slnf_flight.specs.declared.lanes.Taken.{Taken}
 use Rattle.slnf_flight.specs.Actors.{era_of_epoch, eras_of}
 use Rattle.slnf_flight.specs.PlanSetting.{setting_of}
 use Rattle.slnf_verdicts.specs.Given.{given_from, filled}
-use Rattle.slnf_verdicts.specs.Tables.{lists, list_at}
+use Rattle.slnf_verdicts.specs.Parts.{part_in}
 use Rattle.slnf_verdicts.proofs.GivenNext.{base_next, epoch_next, epochs_end}
 use Rattle.slnf_verdicts.proofs.rows.row_of.Goals as goal
 
@@ -29,7 +29,7 @@ loop-number-preserved c =
     record {
       base = omega (arith, step, from, count);
       few = omega (arith, c.loop-number.invariant.few, c.actor_count-base.ensures.few);
-      given = epoch_next (setting_of c.args.plan.now c.args.lanes.now) (λ i. list_at (lists c.args.parts.now) i)
+      given = epoch_next (setting_of c.args.plan.now c.args.lanes.now) (λ i. part_in c.args.parts.now i)
           c.args.lane number c.loop-number.base _ epochs epoch epoch c.loop-number.given.items
           c.add_epoch.new.row.items _
           l here (c.in_ok-add_epoch.ensures epoch there) (ap (λ n. c.loop-number.base + n) count)
@@ -38,7 +38,7 @@ loop-number-preserved c =
 
 pub returns : goal.returns
 returns c =
-    let parts : ℕ → List Entry = λ i. list_at (lists c.args.parts.now) i in
+    let parts : ℕ → List Entry = λ i. part_in c.args.parts.now i in
     let total = given_from (setting_of c.args.plan.now c.args.lanes.now) parts c.args.lane 0 0
     (eras_of c.args.plan.now.epochs) in
     c.from_vec.ensures

@@ -4,14 +4,14 @@ use Rattle.slnf_run.specs.Setting.{base_of}
 use Rattle.slnf_flight.specs.Actors.{eras_of}
 use Rattle.slnf_flight.specs.PlanSetting.{setting_of}
 use Rattle.slnf_verdicts.specs.Given.{given_from}
-use Rattle.slnf_verdicts.specs.Tables.{lists, list_at}
+use Rattle.slnf_verdicts.specs.Parts.{part_in}
 use Rattle.slnf_verdicts.proofs.rows.row_of.Given as goal
 
 abbrev pub invariant-loop-number : goal.invariant-loop-number
 invariant-loop-number l = record {
   base : l.base ≡ base_of (eras_of l.plan.epochs) l.number;
   few : l.base ≤ 33 * l.number;
-  given : l.given.items ++ given_from (setting_of l.plan l.lanes) (λ i. list_at (lists l.parts) i) l.lane
+  given : l.given.items ++ given_from (setting_of l.plan l.lanes) (λ i. part_in l.parts i) l.lane
       (length l.given.items) l.base (eras_of (drop l.number l.plan.epochs))
-      ≡ given_from (setting_of l.plan l.lanes) (λ i. list_at (lists l.parts) i) l.lane 0 0 (eras_of l.plan.epochs);
+      ≡ given_from (setting_of l.plan l.lanes) (λ i. part_in l.parts i) l.lane 0 0 (eras_of l.plan.epochs);
 }

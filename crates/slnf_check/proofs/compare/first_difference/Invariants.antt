@@ -1,5 +1,5 @@
 use Rattle.slnf_check.proofs.Agreement.{Agree}
-use Rattle.slnf_check.proofs.compare.first_other_byte.Given as goal
+use Rattle.slnf_check.proofs.compare.first_difference.Given as goal
 
 -- the texts agree before the place
 abbrev pub invariant-loop-place : goal.invariant-loop-place
