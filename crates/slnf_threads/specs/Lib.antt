@@ -2,3 +2,8 @@ pub mod Worked
 pub mod Takes
 pub mod Reports
 pub mod Parts
+pub mod Passing
+pub mod Crews
+pub mod Taken
+pub mod UnderWay
+pub mod Merged

@@ -1,7 +1,7 @@
 -- the lanes so far are few, and so are their packets
 use Rattle.std.proofs.Common.{◌≤◌, ◌*◌, length}
 use Rattle.slnf_flight.specs.Lanes.{packet_count}
-use Rattle.slnf_trials.proofs.tests.lanes_of.Given as goal
+use Rattle.slnf_trials.proofs.lanes.lanes_of.Given as goal
 
 abbrev pub invariant-loop-piece : goal.invariant-loop-piece
 invariant-loop-piece l = record {

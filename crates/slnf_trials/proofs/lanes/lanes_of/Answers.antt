@@ -1,7 +1,7 @@
 -- one lane more
 use Rattle.std.proofs.Common.{arith}
 use Rattle.slnf_trials.proofs.LaneCounts.{packets_few}
-use Rattle.slnf_trials.proofs.tests.lanes_of.Goals as goal
+use Rattle.slnf_trials.proofs.lanes.lanes_of.Goals as goal
 
 pub loop-piece-preserved-in_ok-push : goal.loop-piece-preserved-in_ok-push
 loop-piece-preserved-in_ok-push c = record {

@@ -2,7 +2,7 @@
 use Rattle.std.proofs.Common.{◌≤◌, length, IsTrue}
 use Rattle.std.specs.List.{list_all}
 use Rattle.slnf_flight.specs.Ranges.{is_taken}
-use Rattle.slnf_trials.proofs.tests.lane_of.Given as goal
+use Rattle.slnf_trials.proofs.lanes.lane_of.Given as goal
 
 abbrev pub invariant-loop-letter : goal.invariant-loop-letter
 invariant-loop-letter l = record {
