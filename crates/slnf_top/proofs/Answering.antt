@@ -12,9 +12,9 @@ use Rattle.slnf_top.specs.declared.statuses.Status.TheVariants as status
 use Rattle.slnf_top.specs.declared.inputs.Tally.{Tally}
 use Rattle.slnf_top.specs.declared.products.Product.{Product}
 use Rattle.slnf_top.specs.declared.products.Product.TheVariants.{Journal, Verdicts, Output}
-use Rattle.slnf_top.specs.Words.{Command, Step, Check, Box, Load, command_of}
+use Rattle.slnf_top.specs.Words.{PlanWords, Command, Run, Step, Check, Box, Load}
 use Rattle.slnf_top.specs.Kinds.{Kind, Whole, Formless, Refusing, Broken, Unread, Unwritten, Wanting, kind_of, HasRead}
-use Rattle.slnf_top.specs.Readings.{Input, PlanFile, CaptureFile, ProductFile, captures_in, outputs_in, journal_file, products_by, inputs_of, name_of, reading_of, limit_of, with_plan, plan_reading, go_on, first_refusal, no_tally}
+use Rattle.slnf_top.specs.Readings.{Input, PlanFile, CaptureFile, ProductFile, captures_in, outputs_in, journal_file, products_by, run_inputs, inputs_of, name_of, reading_of, limit_of, with_plan, plan_reading, go_on, first_refusal, no_tally}
 use Rattle.slnf_top.specs.Names.{capture_names}
 use Rattle.slnf_top.specs.Reached.{Holds, HavePassed, MayRefuse, IsRefused, AllPassed, IsPlanOfCommand, IsOfPlan, FollowsPlan}
 use Rattle.slnf_top.specs.Effects.{input_names}
@@ -246,14 +246,23 @@ module _ (command : Command) (plan : List ℕ) (inputs : List Input) (are : inpu
       passes_so read is reads (refuses_first all (of_plan_refuses plans)) plans
   by_reading (Err refusal) reads all is = by_kind refusal (kind_of ended) refl all is reads
 
+-- of a command that reads a plan and captures alone
+follows_run : (command : Command) (words : PlanWords) → inputs_of command ≡ run_inputs words → (ended : Status)
+    (a b : Faults) (held holds : Holds) (plan bytes : List ℕ) → Ended command ended a b held holds →
+    plan ≡ words.plan → held plan ≡ Some bytes → FollowsPlan ended (plan_reading bytes)
+follows_run command words reads ended a b held holds plan bytes all same is =
+    by_reading command words.plan (captures_in words.captures) reads (captures_behind words.captures)
+    ended a b held holds bytes (plan_reading bytes) refl all
+    (subst (λ (name : List ℕ). held name ≡ Some bytes) same is)
+
 -- what is refused for a plan follows from its bytes
 pub follows_plan : (command : Command) (ended : Status) (a b : Faults) (held holds : Holds) (plan bytes : List ℕ) →
     Ended command ended a b held holds → IsPlanOfCommand command plan → held plan ≡ Some bytes →
     FollowsPlan ended (plan_reading bytes)
+follows_plan (Run words) ended a b held holds plan bytes all same is =
+    follows_run (Run words) words refl ended a b held holds plan bytes all same is
 follows_plan (Step words) ended a b held holds plan bytes all same is =
-    by_reading (Step words) words.plan (captures_in words.captures) refl (captures_behind words.captures)
-    ended a b held holds bytes (plan_reading bytes) refl all
-    (subst (λ (name : List ℕ). held name ≡ Some bytes) same is)
+    follows_run (Step words) words refl ended a b held holds plan bytes all same is
 follows_plan (Check words) ended a b held holds plan bytes all same is =
     let captures : List Input = captures_in words.captures in
     let outputs : List (List ℕ) = capture_names words.out 0 words.captures in
@@ -286,12 +295,14 @@ carries_none command ended a b held holds all = (
 -- a command that did all, one to which memory was wanting, and one that named a rule
 did_all : (command : Command) (ended : Status) (held holds : Holds) → kind_of ended ≡ Whole →
     WroteAll command ended held holds → IsComplete command ended
+did_all (Run words) ended held holds e wrote = inl e
 did_all (Step words) ended held holds e wrote = inl e
 did_all (Check words) ended held holds e wrote = inl (inl wrote.0)
 did_all (Box words) ended held holds e wrote = inl (inl wrote.0)
 did_all (Load words) ended held holds e wrote = inl wrote.0
 
 wanted_memory : (command : Command) (ended : Status) → ended ≡ status.NoMemory → IsComplete command ended
+wanted_memory (Run words) ended e = inr e
 wanted_memory (Step words) ended e = inr e
 wanted_memory (Check words) ended e = inr e
 wanted_memory (Box words) ended e = inr e
@@ -299,6 +310,7 @@ wanted_memory (Load words) ended e = inr e
 
 named_rule : (command : Command) (ended : Status) (held : Holds) → WasBroken command ended held →
     IsComplete command ended
+named_rule (Run words) ended held h = absurd h
 named_rule (Step words) ended held h = absurd h
 named_rule (Check words) ended held h = inl (inr (h.0, h.1))
 named_rule (Box words) ended held h = inl (inr (h.0, h.1))
@@ -330,12 +342,3 @@ module _ (command : Command) (ended : Status) (a b : Faults) (held holds : Holds
   pub completes : Ended command ended a b held holds → AreHeld held (input_names command) bytes →
       first_refusal (inputs_of command) no_tally bytes ≡ None → b ≡ a → IsComplete command ended
   completes all are none still = completes_by (kind_of ended) refl all are none still
-
--- a command by what its words are
-pub ended_as : (words : List (List ℕ)) (found command : Command) (ended : Status) (a b : Faults)
-    (held holds : Holds) →
-    Some found ≡ command_of words → command_of words ≡ Some command → Ended found ended a b held holds →
-    Ended command ended a b held holds
-ended_as words found command ended a b held holds some is all =
-    let same : found ≡ command = cc in
-    subst (λ (x : Command). Ended x ended a b held holds) same all

@@ -7,9 +7,9 @@ use Rattle.slnf_base.specs.declared.packets.Verdict.{Verdict}
 use Rattle.slnf_access.specs.declared.requests.Entry.{Entry}
 use Rattle.slnf_check.specs.declared.given.Given.{Given}
 use Rattle.slnf_top.specs.declared.outputs.File.{File}
-use Rattle.slnf_top.specs.Words.{PlanWords, Step}
-use Rattle.slnf_top.specs.Names.{capture_name, capture_names, verdicts_name, journal_name, standard_output}
-use Rattle.slnf_top.specs.Effects.{IsAmong, IsOutput}
+use Rattle.slnf_top.specs.Words.{PlanWords}
+use Rattle.slnf_top.specs.Names.{capture_name, capture_names, verdicts_name, journal_name, standard_output, run_names}
+use Rattle.slnf_top.specs.Effects.{IsAmong}
 use Rattle.slnf_journal.specs.Journal.{journal_text}
 use Rattle.slnf_journal.specs.Verdicts.{verdicts_text}
 use Rattle.slnf_journal.specs.Summary.{summary_text}
@@ -194,11 +194,11 @@ captures_among out first (g ∷ given) (v ∷ verdicts) (c ∷ captures) name sa
     inr (captures_among out (first + 1) given verdicts captures name
     (suc_same (length given) (length captures) same) h)
 
--- the files of a run are the outputs of the command
+-- the files of a run are those that it may write
 pub named_output : (words : PlanWords) (given : List Given) (verdicts : List (List Verdict)) (journal : List Entry)
     (name : List ℕ) →
     length given ≡ length words.captures → IsNamed (files_of words.out given verdicts journal) name →
-    IsOutput (Step words) name
+    IsAmong (run_names words) name
 named_output words given verdicts journal name same h =
     let captures : List (List ℕ) = capture_names words.out 0 words.captures in
     let tail : List (List ℕ) = verdicts_name words.out ∷ journal_name words.out ∷ standard_output ∷ [] in

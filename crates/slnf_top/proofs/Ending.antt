@@ -18,7 +18,7 @@ use Rattle.slnf_top.specs.Effects.{IsOutput, Reads, Calls, RoseAt, WriteRose}
 use Rattle.slnf_top.specs.Inputs.{Source}
 use Rattle.slnf_top.specs.Refused.{RefusesInputs, StopsWriting, StaysUnless, StopsAt}
 use Rattle.slnf_top.specs.Files.{Texts, names_of, HoldFiles, IsNamed, WritesFiles, Wrote, StoppedAt}
-use Rattle.slnf_top.specs.Written.{IsRunFrom, status_of, IsWritten, IsStopped, WroteAll, WroteFront, WasBroken}
+use Rattle.slnf_top.specs.Written.{Order, IsRunFrom, status_of, IsWritten, IsStopped, WroteAll, WroteFront, WasBroken}
 use Rattle.slnf_top.specs.Reads.{WereRefused}
 use Rattle.slnf_top.specs.Outcome.{Ended}
 use Rattle.slnf_top.proofs.Apart.{AreApart}
@@ -222,13 +222,13 @@ module _ (command : Command) (files : List File) (a b c : Faults) (held middle h
   ended_err (Err e) front h still stops = ended_stopped e front h still stops
 
 -- What is so when the inputs were read and the writing of a run's files began.
-pub record WritesRun (command : Command) (texts : Texts) (source : Source) (run : Run) (a b c : Faults)
-    (held middle holds : Holds) : Type 0 where
+pub record WritesRun (command : Command) (order : Order) (texts : Texts) (source : Source) (run : Run)
+    (a b c : Faults) (held middle holds : Holds) : Type 0 where
   pub read : Moves (Reads command) a b
   pub still : b ≡ a
   pub same : SameFiles held middle
   pub passed : AllPassed held (inputs_of command)
-  pub is_run : IsRunFrom texts source run
+  pub is_run : IsRunFrom order texts source run
   pub apart : AreApart run.files
   pub outputs : (name : List ℕ) → IsNamed run.files name → IsOutput command name
   pub write : Moves (WritesFiles run.files) b c
@@ -239,8 +239,8 @@ whole_if : (b : Bool) → kind_of (cond b status.Ok status.Left) ≡ Whole
 whole_if true = refl
 whole_if false = refl
 
-module _ (command : Command) (texts : Texts) (source : Source) (run : Run) (a b c : Faults)
-    (held middle holds : Holds) (w : WritesRun command texts source run a b c held middle holds) where
+module _ (command : Command) (order : Order) (texts : Texts) (source : Source) (run : Run) (a b c : Faults)
+    (held middle holds : Holds) (w : WritesRun command order texts source run a b c held middle holds) where
   writes_all : WritesAll command run.files a b c held middle holds
   writes_all = record {
     read = w.read;
@@ -254,7 +254,8 @@ module _ (command : Command) (texts : Texts) (source : Source) (run : Run) (a b 
   }
 
   -- the writing was stopped
-  pub stopped_at : (ended : Status) → (IsStopped texts source a c held holds → WroteFront command a c held holds) →
+  pub stopped_at : (ended : Status) →
+      (IsStopped order texts source a c held holds → WroteFront command a c held holds) →
       StopsWriting (RoseAt (names_of run.files) b c) ended → StaysUnless status.WriteFault b c ended →
       StopsAt run.files b c middle holds ended → Ended command ended a c held holds
   stopped_at ended front h still stops =
@@ -267,7 +268,8 @@ module _ (command : Command) (texts : Texts) (source : Source) (run : Run) (a b 
 
   -- all was written
   pub all_written :
-      (IsWritten texts source (status_of run.left) held holds → WroteAll command (status_of run.left) held holds) →
+      (IsWritten order texts source (status_of run.left) held holds →
+      WroteAll command (status_of run.left) held holds) →
       Wrote run.files middle holds → c ≡ b → Ended command (status_of run.left) a c held holds
   all_written whole wrote still =
       ended_whole command run.files a b c held middle holds writes_all (status_of run.left) (whole_if (run.left == 0))

@@ -10,7 +10,7 @@ use Rattle.slnf_check.specs.Checks.{IsJournalOf, IsRefusedJournal, AreTrue, AreR
 use Rattle.slnf_shelf.specs.Shelf.{Faults}
 use Rattle.slnf_top.specs.declared.statuses.Status.{Status}
 use Rattle.slnf_top.specs.declared.statuses.Status.TheVariants as status
-use Rattle.slnf_top.specs.Words.{PlanWords, Command, Step, Check, Box, Load}
+use Rattle.slnf_top.specs.Words.{PlanWords, Command, Run, Step, Check, Box, Load}
 use Rattle.slnf_top.specs.Kinds.{Kind, Whole, Formless, Refusing, Broken, Unread, Unwritten, Wanting, kind_of, HasJudged}
 use Rattle.slnf_top.specs.Reached.{Holds}
 use Rattle.slnf_top.specs.Checked.{IsCheck, IsBox, IsBroken, IsBrokenJournal, Names, HoldsAccepted, HoldsLines}
@@ -115,12 +115,14 @@ module _ (words : PlanWords) (ended : Status) (held holds : Holds) where
 module _ (files_apart : FilesApart) (files_once : FilesOnce) (journals_apart : JournalsApart)
     (journals_once : JournalsOnce) (ended : Status) (held holds : Holds) where
   wrote_exactly : (command : Command) → WroteAll command ended held holds → IsExact command ended held
+  wrote_exactly (Run words) wrote = tt
   wrote_exactly (Step words) wrote = tt
   wrote_exactly (Check words) wrote = accepted_exactly words ended held holds files_apart wrote
   wrote_exactly (Box words) wrote = answered_exactly words ended held holds journals_apart wrote
   wrote_exactly (Load words) wrote = tt
 
   named_exactly : (command : Command) → WasBroken command ended held → IsExact command ended held
+  named_exactly (Run words) none = absurd none
   named_exactly (Step words) none = absurd none
   named_exactly (Check words) named = broken_exactly words ended held holds files_apart files_once named
   named_exactly (Box words) named = refused_exactly words ended held holds journals_apart journals_once named

@@ -1,6 +1,6 @@
 -- How `check` and `box` ended, by what was read and written.
-use Rattle.std.proofs.Common.{◌≡◌, inl, inr, ℕ, List, [], ◌∷◌, refl, sym, ◌∙◌, subst}
-use Rattle.std.specs.Prelude.{IfSome}
+use Rattle.std.proofs.Common.{◌≡◌, inl, inr, ℕ, List, [], ◌∷◌, refl, ap, sym, ◌∙◌, subst}
+use Rattle.std.specs.Prelude.{IfSome, Result, OnOk, IfErr}
 use Rattle.slnf_follow.specs.declared.refusals.Refusal.{Refusal}
 use Rattle.slnf_check.specs.declared.given.RunFiles.{RunFiles}
 use Rattle.slnf_check.specs.declared.refusals.CheckError.{CheckError}
@@ -14,21 +14,21 @@ use Rattle.slnf_top.specs.declared.inputs.Inputs.{Inputs}
 use Rattle.slnf_top.specs.declared.inputs.Tally.{Tally}
 use Rattle.slnf_top.specs.declared.outputs.File.{File}
 use Rattle.slnf_top.specs.Names.{standard_output, outputs_of, journal_name}
-use Rattle.slnf_top.specs.Words.{PlanWords, Command, Check, Box}
+use Rattle.slnf_top.specs.Words.{PlanWords, Command, Run, Step, Check, Box, Load}
 use Rattle.slnf_top.specs.Readings.{run_inputs, journal_file, products_by, inputs_of, no_tally}
 use Rattle.slnf_top.specs.Reached.{Holds}
-use Rattle.slnf_top.specs.Effects.{IsAmong, ReadsOf}
+use Rattle.slnf_top.specs.Effects.{IsAmong, ReadsOf, RoseAt}
 use Rattle.slnf_top.specs.Inputs.{AreInputs}
-use Rattle.slnf_top.specs.Refused.{RefusesInputs, StaysUnless, status_of_check}
+use Rattle.slnf_top.specs.Refused.{RefusesInputs, StopsWriting, StopsAt, StaysUnless, status_of_check}
 use Rattle.slnf_top.specs.Reads.{WereRead, WereRefused, WerePassed, WereStopped, AreFilesOf}
-use Rattle.slnf_top.specs.Files.{HoldFiles, IsNamed, WritesFiles, StoppedAt}
-use Rattle.slnf_top.specs.Checked.{BreaksBy, Worked, Checked, Followed, TellsAccepted, TellsLines}
+use Rattle.slnf_top.specs.Files.{names_of, HoldFiles, IsNamed, WritesFiles, Wrote, StoppedAt}
+use Rattle.slnf_top.specs.Checked.{BreaksBy, Worked, Checked, Followed, IsFound, TellsAccepted, TellsLines}
 use Rattle.slnf_top.specs.Written.{WroteAll, WroteFront}
 use Rattle.slnf_top.specs.Outcome.{Ended}
 use Rattle.slnf_top.proofs.Apart.{AreApart}
 use Rattle.slnf_top.proofs.Behind.{read_then, refused_front, refused_back}
 use Rattle.slnf_top.proofs.RunFiles.{files_earlier}
-use Rattle.slnf_top.proofs.Ending.{WritesAll, refused_ended, wanting_behind, broken_behind}
+use Rattle.slnf_top.proofs.Ending.{WritesAll, refused_ended, wanting_behind, broken_behind, ended_ok, ended_err}
 use Rattle.slnf_top.proofs.Stepping.{input_reads}
 
 -- an error of a check, as a status
@@ -63,7 +63,7 @@ worked_by words held inputs are = record {
 }
 
 -- One file is written behind the reading, to standard output.
-pub writes_one : (command : Command) (last : Tally) (a b c : Faults) (held middle holds : Holds) (file : File)
+writes_one : (command : Command) (last : Tally) (a b c : Faults) (held middle holds : Holds) (file : File)
     (files : List File) → outputs_of command ≡ standard_output ∷ [] → file.name ≡ standard_output →
     WereRead (inputs_of command) no_tally last a b held middle → files ≡ file ∷ [] →
     Moves (WritesFiles files) b c → ((other : List ℕ) → ¬ IsNamed files other → holds other ≡ middle other) →
@@ -122,30 +122,11 @@ module _ (words : PlanWords) (inputs : Inputs) (a b c : Faults) (held half middl
         (h.0, refl, record { checked = checked_by; refused = h.2 }))
 
     -- the files are accepted
-    module _ (file : File) (tells : TellsAccepted inputs.plan inputs.captures.lanes inputs.captures.given files file)
-        (holds : Holds) where
-      pub accepted_all : (fs : List File) → fs ≡ file ∷ [] → HoldFiles fs held holds →
-          WroteAll (Check words) status.Ok held holds
-      unfolding checked_by worked_by
-      accepted_all fs is hold = (
-        refl,
-        (
-          tells.entries,
-          record { checked = checked_by; are_true = tells.are_true },
-          subst (λ (f : File). HoldFiles (f ∷ []) held holds) tells.file_is
-              (subst (λ (xs : List File). HoldFiles xs held holds) is hold),
-        ),
-      )
-
-      pub accepted_front : (d : Faults) (fs : List File) → fs ≡ file ∷ [] → StoppedAt fs a d held holds →
-          WroteFront (Check words) a d held holds
-      unfolding checked_by worked_by
-      accepted_front d fs is stops = (
-        tells.entries,
-        record { checked = checked_by; are_true = tells.are_true },
-        subst (λ (f : File). StoppedAt (f ∷ []) a d held holds) tells.file_is
-            (subst (λ (xs : List File). StoppedAt xs a d held holds) is stops),
-      )
+    pub accepted_found : (file : File) →
+        TellsAccepted inputs.plan inputs.captures.lanes inputs.captures.given files file → IsFound (Check words) held file
+    unfolding checked_by worked_by
+    accepted_found file tells =
+        (tells.entries, record { checked = checked_by; are_true = tells.are_true }, tells.file_is)
 
 -- `box`
 module _ (words : PlanWords) (inputs : Inputs) (a b c : Faults) (held half middle : Holds)
@@ -186,26 +167,67 @@ module _ (words : PlanWords) (inputs : Inputs) (a b c : Faults) (held half middl
         (record { tally = inputs.captures.tally; passed = all.passed })
         (h.0, refl, record { followed = followed_by; refused = h.2 }))
 
-    module _ (file : File) (tells : TellsLines inputs.plan inputs.captures.lanes journal file) (holds : Holds) where
-      pub answered_all : (fs : List File) → fs ≡ file ∷ [] → HoldFiles fs held holds →
-          WroteAll (Box words) status.Ok held holds
-      unfolding followed_by worked_by
-      answered_all fs is hold = (
-        refl,
-        (
-          file,
-          record { followed = followed_by; tells = tells },
-          subst (λ (xs : List File). HoldFiles xs held holds) is hold,
-        ),
-      )
+    pub answered_found : (file : File) → TellsLines inputs.plan inputs.captures.lanes journal file →
+        IsFound (Box words) held file
+    unfolding followed_by worked_by
+    answered_found file tells = record { followed = followed_by; tells = tells }
 
-      pub answered_front : (d : Faults) (fs : List File) → fs ≡ file ∷ [] → StoppedAt fs a d held holds →
-          WroteFront (Box words) a d held holds
-      unfolding followed_by worked_by
-      answered_front d fs is stops = (
-        file,
-        record { followed = followed_by; tells = tells },
-        subst (λ (xs : List File). StoppedAt xs a d held holds) is stops,
+-- what was found goes to standard output, and is what the command writes
+module _ (held : Holds) (file : File) where
+  found_output : (command : Command) → IsFound command held file →
+      (outputs_of command ≡ standard_output ∷ []) × (file.name ≡ standard_output)
+  found_output (Run words) none = absurd none
+  found_output (Step words) none = absurd none
+  found_output (Check words) found = (refl, ap (λ (f : File). f.name) found.2)
+  found_output (Box words) found = (refl, ap (λ (f : File). f.name) found.tells.file_is)
+  found_output (Load words) none = absurd none
+
+  found_all : (command : Command) (holds : Holds) (fs : List File) → fs ≡ file ∷ [] → IsFound command held file →
+      HoldFiles fs held holds → WroteAll command status.Ok held holds
+  found_all (Run words) holds fs is none hold = absurd none
+  found_all (Step words) holds fs is none hold = absurd none
+  found_all (Check words) holds fs is found hold = (
+    refl,
+    (
+      found.0,
+      found.1,
+      subst (λ (f : File). HoldFiles (f ∷ []) held holds) found.2
+          (subst (λ (xs : List File). HoldFiles xs held holds) is hold),
+    ),
+  )
+  found_all (Box words) holds fs is found hold =
+      (refl, (file, found, subst (λ (xs : List File). HoldFiles xs held holds) is hold))
+  found_all (Load words) holds fs is none hold = absurd none
+
+  found_front : (command : Command) (a d : Faults) (holds : Holds) (fs : List File) → fs ≡ file ∷ [] →
+      IsFound command held file → StoppedAt fs a d held holds → WroteFront command a d held holds
+  found_front (Run words) a d holds fs is none stops = absurd none
+  found_front (Step words) a d holds fs is none stops = absurd none
+  found_front (Check words) a d holds fs is found stops = (
+    found.0,
+    found.1,
+    subst (λ (f : File). StoppedAt (f ∷ []) a d held holds) found.2
+        (subst (λ (xs : List File). StoppedAt xs a d held holds) is stops),
+  )
+  found_front (Box words) a d holds fs is found stops =
+      (file, found, subst (λ (xs : List File). StoppedAt xs a d held holds) is stops)
+  found_front (Load words) a d holds fs is none stops = absurd none
+
+  -- it was written behind the reading, or the writing was stopped
+  pub found_ended : {T : Type 0} (r : Result T Status) (command : Command) (last : Tally) (a b c : Faults)
+      (middle holds : Holds) (fs : List File) → fs ≡ file ∷ [] → IsFound command held file →
+      WereRead (inputs_of command) no_tally last a b held middle → Moves (WritesFiles fs) b c →
+      ((other : List ℕ) → ¬ IsNamed fs other → holds other ≡ middle other) → OnOk r (Wrote fs middle holds) →
+      OnOk r (c ≡ b) → IfErr r (StopsWriting (RoseAt (names_of fs) b c)) → IfErr r (StaysUnless status.WriteFault b c) →
+      IfErr r (StopsAt fs b c middle holds) →
+      OnOk r (Ended command status.Ok a c held holds) × IfErr r (λ ended. Ended command ended a c held holds)
+  found_ended r command last a b c middle holds fs is found read write others wrote still stopped stays at_one =
+      let goes = found_output command found in
+      let writes : WritesAll command fs a b c held middle holds =
+      writes_one command last a b c held middle holds file fs goes.0 goes.1 read is write others in (
+        ended_ok command fs a b c held middle holds writes r (found_all command holds fs is found) wrote still,
+        ended_err command fs a b c held middle holds writes r (found_front command a c holds fs is found) stopped
+            stays at_one,
       )
 
 -- the plan or a capture was refused

@@ -15,3 +15,5 @@ pub mod Behind
 pub mod RunFiles
 pub mod Judging
 pub mod Exact
+pub mod Serving
+pub mod AnyOrder

@@ -34,7 +34,7 @@ use Rattle.slnf_top.specs.Effects.{IsOutput, Reads}
 use Rattle.slnf_check.specs.Given.{AreRead}
 use Rattle.slnf_top.specs.Inputs.{AreTold, IsLaneOf, AreLanesOf}
 use Rattle.slnf_top.specs.Files.{IsNamed, WritesFiles, summary_file, summary_alone}
-use Rattle.slnf_top.specs.Written.{IsOutcome, IsRunFrom, IsLoad, load_source}
+use Rattle.slnf_top.specs.Written.{BySchedule, IsOutcome, IsRunFrom, IsLoad, load_source}
 use Rattle.slnf_top.proofs.Apart.{AreApart}
 use Rattle.slnf_top.proofs.Ending.{WritesRun}
 use Rattle.slnf_top.proofs.NoneLeft.{none_left}
@@ -220,10 +220,10 @@ load_packets words load few small is =
     omega arith
 
 module _ (words : LoadWords) (load : LoadInputs) (outcome : Outcome) (run : Run) (is : IsLoad words load)
-    (of : IsOutcome load.plan load.lanes outcome) where
+    (of : IsOutcome BySchedule load.plan load.lanes outcome) where
   -- the summary of its run
   pub load_run : run.files ≡ summary_file outcome.verdicts outcome.journal ∷ [] → run.left ≡ outcome.left →
-      IsRunFrom summary_alone (load_source words) run
+      IsRunFrom BySchedule summary_alone (load_source words) run
   load_run files left =
       let given = lanes_given (captures_of words.number words.lanes words.packets) load.lanes is.lanes in
       record {
@@ -243,18 +243,18 @@ module _ (words : LoadWords) (load : LoadInputs) (outcome : Outcome) (run : Run)
   pub load_leaves_none : run.left ≡ outcome.left → run.left ≡ 0
   load_leaves_none left =
       left ∙ of.left ∙ ap left_in of.verdicts
-      ∙ none_left load.plan load.lanes words.lanes outcome.journal is.told (load_lanes words load is) of.explained
+      ∙ none_left BySchedule load.plan load.lanes words.lanes outcome.journal is.told (load_lanes words load is) of.explained
 
 -- The summary of a run was written, or its writing stopped.
 module _ (words : LoadWords) (run : Run) (a b : Faults) (held holds : Holds)
-    (is : IsRunFrom summary_alone (load_source words) run) where
+    (is : IsRunFrom BySchedule summary_alone (load_source words) run) where
   -- its one file has the name of the output
   outputs_by : (name : List ℕ) → IsNamed run.files name → IsOutput (Load words) name
   outputs_by name h = subst (λ (fs : List File). IsNamed fs name) is.files h
 
   pub writes_summary : (files : List File) → files ≡ run.files → Moves (WritesFiles files) a b →
       ((other : List ℕ) → ¬ IsNamed files other → holds other ≡ held other) →
-      WritesRun (Load words) summary_alone (load_source words) run a a b held held holds
+      WritesRun (Load words) BySchedule summary_alone (load_source words) run a a b held held holds
   writes_summary files same write others = record {
     read = Moves-still (Reads (Load words)) a;
     still = refl;

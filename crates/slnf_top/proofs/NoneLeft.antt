@@ -23,7 +23,7 @@ use Rattle.slnf_flight.specs.Actors.{instance_actor, eras_of}
 use Rattle.slnf_flight.specs.Flights.{Arrival}
 use Rattle.slnf_flight.specs.PlanSetting.{setting_of}
 use Rattle.slnf_setting.specs.OneBoxOfPlan.{IsOneBoxBy}
-use Rattle.slnf_top.specs.Written.{IsExplained, verdicts_in}
+use Rattle.slnf_top.specs.Written.{Order, IsExplained, verdicts_in}
 
 -- an instance of a lane that takes all, as a plan has it and as an actor
 abbrev whole_instance : ℕ → InstancePlan
@@ -116,10 +116,10 @@ front_of_function (Firewall inside rules) s es h = h.front
 front_of_function (Balancer service) s es h = h.front
 
 -- A run of a load's plan leaves no packet.
-pub none_left : (plan : Plan) (lanes : List Lane) (count : ℕ) (journal : List Entry) →
-    plain plan ≡ plan_told count → length lanes ≡ count → IsExplained plan lanes journal →
+pub none_left : (order : Order) (plan : Plan) (lanes : List Lane) (count : ℕ) (journal : List Entry) →
+    plain plan ≡ plan_told count → length lanes ≡ count → IsExplained order plan lanes journal →
     left_in (verdicts_in plan lanes journal) ≡ 0
-none_left plan lanes count journal told size is =
+none_left order plan lanes count journal told size is =
     let s : Setting AnyFlight Arrival = setting_of plan lanes in
     (front_of_function plan.function s journal is.is_run.one_box).left
     ∙ none_left_behind s journal count (length-map lanes (λ lane. length lane.packets) ∙ size)

@@ -10,12 +10,9 @@ use Rattle.slnf_pcap.specs.declared.capture.Capture.{Capture}
 use Rattle.slnf_plan.specs.declared.plan.Plan.{Plan}
 use Rattle.slnf_run.specs.Setting.{Setting}
 use Rattle.slnf_run.specs.Run.{IsRun}
-use Rattle.slnf_run.specs.Scheduled.{IsScheduled, usual_way}
-use Rattle.slnf_run.specs.Stamps.{HasClockStamps}
 use Rattle.slnf_run.specs.Verdicts.{verdict_of, verdicts_from, verdicts_of, left_in}
 use Rattle.slnf_flight.specs.declared.lanes.Lane.{Lane}
 use Rattle.slnf_flight.specs.declared.outcomes.Outcome.{Outcome}
-use Rattle.slnf_flight.specs.Actors.{eras_of}
 use Rattle.slnf_flight.specs.Captures.{packets_in, packets_of}
 use Rattle.slnf_flight.specs.Lanes.{lane_sizes}
 use Rattle.slnf_flight.specs.PlanSetting.{setting_of}
@@ -28,7 +25,7 @@ use Rattle.slnf_check.specs.declared.given.Given.{Given}
 use Rattle.slnf_top.specs.declared.outputs.File.{File}
 use Rattle.slnf_top.specs.Files.{Texts}
 use Rattle.slnf_check.specs.Given.{AreRead, AreGiven, AreSized}
-use Rattle.slnf_top.specs.Written.{IsOutcome, IsRunOf}
+use Rattle.slnf_top.specs.Written.{Order, IsInOrder, IsOutcome, IsRunOf}
 
 -- how many there are of a mapped list, and of a range
 pub length_map : {X Y : Type 0} (f : X → Y) (xs : List X) → length (map f xs) ≡ length xs
@@ -90,25 +87,28 @@ module _ {F A : Type 0} (s : Setting F A) (j : List Entry) where
     sized_from (first + 1) given lanes h.1,
   )
 
-pub sized : (plan : Plan) (given : List Given) (lanes : List Lane) (outcome : Outcome) → AreRead given lanes →
-    IsOutcome plan lanes outcome → AreSized given outcome.verdicts
-sized plan given lanes outcome read is =
+pub sized : (order : Order) (plan : Plan) (given : List Given) (lanes : List Lane) (outcome : Outcome) →
+    AreRead given lanes → IsOutcome order plan lanes outcome → AreSized given outcome.verdicts
+sized order plan given lanes outcome read is =
     subst (AreSized given) (sym is.verdicts) (sized_from (setting_of plan lanes) outcome.journal 0 given lanes read)
 
+-- two facts of what a call answers
+pub both_if_ok : {T E : Type 0} (P Q : T → Type 0) (r : Result T E) → IfOk r P → IfOk r Q → IfOk r (λ x. P x × Q x)
+both_if_ok P Q (Ok x) p q = (p, q)
+both_if_ok P Q (Err e) p q = tt
+
 -- a run of the plan, with all that its outcome owes
-pub outcome_if_ok : {E : Type 0} (plan : Plan) (lanes : List Lane) (r : Result Outcome E) →
-    IfOk r (λ o. IsScheduled (setting_of plan lanes) (usual_way (eras_of plan.epochs)) o.journal) →
-    IfOk r (λ o. HasClockStamps (setting_of plan lanes) o.journal) →
+pub outcome_if_ok : {E : Type 0} (order : Order) (plan : Plan) (lanes : List Lane) (r : Result Outcome E) →
+    IfOk r (λ o. IsInOrder order plan lanes o.journal) →
     IfOk r (λ o. IsRun (setting_of plan lanes) o.journal) → IfOk r (λ o. IsOneBoxOfPlan plan lanes o.journal) →
     IfOk r (λ o. KeepsPairs plan.function o.journal) → IfOk r (λ o. NoneIll plan.function o.journal) →
     IfOk r (λ o. IsBoundedFor plan.function (setting_of plan lanes).scene.begins o.journal) →
     IfOk r (λ o. length o.journal < 2 ^ 41) → IfOk r (λ o. RunsWell plan.function (setting_of plan lanes) o.journal) →
     IfOk r (λ o. o.verdicts ≡ verdicts_of (setting_of plan lanes) o.journal) →
-    IfOk r (λ o. o.left ≡ left_in o.verdicts) → IfOk r (IsOutcome plan lanes)
-outcome_if_ok plan lanes (Ok o) scheduled stamps run one_box pairs none_ill bounded few well verdicts left = record {
+    IfOk r (λ o. o.left ≡ left_in o.verdicts) → IfOk r (IsOutcome order plan lanes)
+outcome_if_ok order plan lanes (Ok o) in_order run one_box pairs none_ill bounded few well verdicts left = record {
   explained = record {
-    scheduled = scheduled;
-    stamps = stamps;
+    in_order = in_order;
     is_run = record {
       run = run;
       one_box = one_box;
@@ -123,14 +123,14 @@ outcome_if_ok plan lanes (Ok o) scheduled stamps run one_box pairs none_ill boun
   verdicts = verdicts;
   left = left;
 }
-outcome_if_ok plan lanes (Err e) scheduled stamps run one_box pairs none_ill bounded few well verdicts left = tt
+outcome_if_ok order plan lanes (Err e) in_order run one_box pairs none_ill bounded few well verdicts left = tt
 
 -- the files of an outcome are those of its run
-pub is_run_of : (texts : Texts) (plan : Plan) (given : List Given) (lanes : List Lane) (outcome : Outcome)
+pub is_run_of : (order : Order) (texts : Texts) (plan : Plan) (given : List Given) (lanes : List Lane) (outcome : Outcome)
     (files : List File) →
-    IsOutcome plan lanes outcome → files ≡ texts given outcome.verdicts outcome.journal →
-    IsRunOf texts plan given lanes (record { files = files; left = outcome.left })
-is_run_of texts plan given lanes outcome files is are = record {
+    IsOutcome order plan lanes outcome → files ≡ texts given outcome.verdicts outcome.journal →
+    IsRunOf order texts plan given lanes (record { files = files; left = outcome.left })
+is_run_of order texts plan given lanes outcome files is are = record {
   journal = outcome.journal;
   explained = is.explained;
   files = are ∙ ap (λ (vs : List (List Verdict)). texts given vs outcome.journal) is.verdicts;

@@ -13,7 +13,7 @@ use Rattle.slnf_top.specs.declared.statuses.Status.{Status}
 use Rattle.slnf_top.specs.declared.statuses.Status.TheVariants as status
 use Rattle.slnf_top.specs.declared.outputs.File.{File}
 use Rattle.slnf_top.specs.Names.{journal_name, standard_output}
-use Rattle.slnf_top.specs.Words.{PlanWords}
+use Rattle.slnf_top.specs.Words.{PlanWords, Command, Run, Step, Check, Box, Load}
 use Rattle.slnf_top.specs.Reached.{Holds}
 use Rattle.slnf_top.specs.Reads.{AreFilesOf}
 use Rattle.slnf_top.specs.Inputs.{Source, WorksOn}
@@ -109,6 +109,15 @@ pub record IsBox (words : PlanWords) (held : Holds) (ended : Status) : Type 0 wh
       × IsJournalOf followed.worked.plan followed.worked.lanes followed.journal entries)
   pub refuses : (refusal : Refusal) → (ended ≡ status.Refused refusal)
       ↔ IsRefusedJournal followed.worked.plan followed.worked.lanes followed.journal refusal
+
+-- the file is what `check` writes of files that are accepted, or `box` of such a journal
+abbrev pub IsFound : Command → Holds → File → Type 0
+IsFound (Run words) held file = ⊥
+IsFound (Step words) held file = ⊥
+IsFound (Check words) held file =
+    (entries : List Entry) × IsAccepted words held entries × (file ≡ accepted_file entries)
+IsFound (Box words) held file = IsAnswered words held file
+IsFound (Load words) held file = ⊥
 
 -- the status names this refusal
 abbrev pub Names : (Refusal → Type 0) → Status → Type 0

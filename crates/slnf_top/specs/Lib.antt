@@ -13,3 +13,4 @@ pub mod Reads
 pub mod Checked
 pub mod Written
 pub mod Outcome
+pub mod Served

@@ -5,7 +5,7 @@ use Rattle.slnf_follow.specs.declared.refusals.Refusal.{Refusal}
 use Rattle.slnf_top.specs.declared.statuses.Status.{Status}
 use Rattle.slnf_top.specs.declared.statuses.Status.TheVariants as status
 use Rattle.slnf_top.specs.Kinds.{Whole, Refusing, Broken, kind_of, HasRead, MayWrite}
-use Rattle.slnf_top.specs.Words.{Command, Step, Check, Box, Load}
+use Rattle.slnf_top.specs.Words.{Command, Run, Step, Check, Box, Load}
 use Rattle.slnf_top.specs.Readings.{inputs_of}
 use Rattle.slnf_top.specs.Reached.{Holds, IsUnread, IsRefused, AllPassed}
 use Rattle.slnf_top.specs.Effects.{IsOutput, Reads, Calls, WriteRose}
@@ -38,6 +38,7 @@ Judges ended = (ended ≡ status.Ok) ⊎ ((refusal : Refusal) × (ended ≡ stat
 -- A command with no fault and no refused input did all, or memory was wanting. `load` leaves no packet. `check` and `box`
 -- accept or name a rule.
 abbrev pub IsComplete : Command → Status → Type 0
+IsComplete (Run words) ended = (kind_of ended ≡ Whole) ⊎ (ended ≡ status.NoMemory)
 IsComplete (Step words) ended = (kind_of ended ≡ Whole) ⊎ (ended ≡ status.NoMemory)
 IsComplete (Check words) ended = Judges ended ⊎ (ended ≡ status.NoMemory)
 IsComplete (Box words) ended = Judges ended ⊎ (ended ≡ status.NoMemory)

@@ -12,7 +12,7 @@ use Rattle.slnf_top.specs.declared.statuses.Status.{Status}
 use Rattle.slnf_top.specs.declared.statuses.Status.TheVariants as status
 use Rattle.slnf_top.specs.declared.inputs.Tally.{Tally}
 use Rattle.slnf_top.specs.Limits.{plan_limit, capture_limit}
-use Rattle.slnf_top.specs.Words.{Command, Step, Check, Box, Load}
+use Rattle.slnf_top.specs.Words.{Command, Run, Step, Check, Box, Load}
 use Rattle.slnf_top.specs.Readings.{Input, PlanFile, CaptureFile, ProductFile, name_of, reading_of, limit_of, most_of, no_tally}
 
 -- what stands under each name, where it is told
@@ -81,6 +81,7 @@ pub record AllPassed (held : Holds) (inputs : List Input) : Type 0 where
 
 -- the file is one that the command reads as a plan
 abbrev pub IsPlanOfCommand : Command → List ℕ → Type 0
+IsPlanOfCommand (Run words) name = name ≡ words.plan
 IsPlanOfCommand (Step words) name = name ≡ words.plan
 IsPlanOfCommand (Check words) name = name ≡ words.plan
 IsPlanOfCommand (Box words) name = name ≡ words.plan

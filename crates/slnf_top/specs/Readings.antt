@@ -12,7 +12,7 @@ use Rattle.slnf_top.specs.declared.inputs.Tally.{Tally}
 use Rattle.slnf_top.specs.declared.products.Product.{Product}
 use Rattle.slnf_top.specs.declared.products.Product.TheVariants.{Journal, Verdicts, Output}
 use Rattle.slnf_top.specs.Limits.{plan_limit, capture_limit, captures_limit, packets_limit, journal_limit, verdicts_limit}
-use Rattle.slnf_top.specs.Words.{PlanWords, Command, Step, Check, Box, Load}
+use Rattle.slnf_top.specs.Words.{PlanWords, Command, Run, Step, Check, Box, Load}
 use Rattle.slnf_top.specs.Names.{verdicts_name, journal_name, capture_names}
 
 -- A file that a command reads, by what it is to hold.
@@ -52,6 +52,7 @@ products_by out captures =
 
 -- the files that a command reads, in order
 abbrev pub inputs_of : Command → List Input
+inputs_of (Run words) = run_inputs words
 inputs_of (Step words) = run_inputs words
 inputs_of (Check words) = run_inputs words ++ products_by words.out words.captures
 inputs_of (Box words) = run_inputs words ++ journal_file words.out ∷ []

@@ -1,15 +1,17 @@
 -- How inputs were read, one after another.
-use Rattle.std.specs.Prelude.{◌≡◌, ℕ, List, map, IfSome}
+use Rattle.std.specs.Prelude.{◌≡◌, ◌∷◌, ℕ, List, map, IfSome}
 use Rattle.slnf_shelf.specs.Shelf.{Faults, Moves, SameFiles}
 use Rattle.slnf_check.specs.declared.given.RunFiles.{RunFiles}
 use Rattle.slnf_top.specs.declared.inputs.Tally.{Tally}
 use Rattle.slnf_top.specs.declared.statuses.Status.{Status}
 use Rattle.slnf_top.specs.declared.statuses.Status.TheVariants as status
+use Rattle.slnf_top.specs.declared.inputs.Inputs.{Inputs}
+use Rattle.slnf_top.specs.Words.{PlanWords}
 use Rattle.slnf_top.specs.Names.{capture_names, verdicts_name, journal_name}
 use Rattle.slnf_top.specs.Readings.{Input, name_of}
 use Rattle.slnf_top.specs.Reached.{Holds, HavePassed}
 use Rattle.slnf_top.specs.Effects.{ReadsOf}
-use Rattle.slnf_top.specs.Inputs.{AreTexts}
+use Rattle.slnf_top.specs.Inputs.{AreTexts, AreInputs}
 use Rattle.slnf_top.specs.Refused.{RefusesFrom, StaysUnless}
 
 -- the names of these inputs
@@ -37,6 +39,14 @@ WerePassed inputs before now held holds = (tally : Tally) → WereRead inputs ta
 
 abbrev pub WereStopped : List Input → Faults → Faults → Holds → Holds → Status → Type 0
 WereStopped inputs before now held holds ended = (tally : Tally) → WereRefused inputs tally before now held holds ended
+
+-- The plan and the captures of these words were read, and no call met a fault.
+pub record WereInputsRead (words : PlanWords) (inputs : Inputs) (before now : Faults) (held holds : Holds)
+    : Type 0 where
+  pub counts : Moves (ReadsOf (words.plan ∷ words.captures)) before now
+  pub still : now ≡ before
+  pub same : SameFiles held holds
+  pub are : AreInputs words.plan words.captures held inputs
 
 -- The files of a run are those of its names, as far as the shelf tells them: of OUT, and of as many output captures as
 -- there are captures.

@@ -31,6 +31,7 @@ pub record LoadWords : Type 0 where
 
 -- A command, with what its words name.
 pub data Command : Type 0 where
+  Run : PlanWords → Command
   Step : PlanWords → Command
   Check : PlanWords → Command
   Box : PlanWords → Command
@@ -63,19 +64,29 @@ load_of (number ∷ lanes ∷ packets ∷ []) = do
   Some (Load (record { number = n; lanes = l; packets = p }))
 load_of (number ∷ lanes ∷ packets ∷ more ∷ words) = None
 
--- the command that has this name, where the words behind it are of its form
-abbrev pub command_named : List ℕ → List (List ℕ) → Option Command
-command_named name words =
+-- the command that has this name, but `run`, where the words behind it are of its form
+abbrev pub plain_command_named : List ℕ → List (List ℕ) → Option Command
+plain_command_named name words =
     if bytes_eq name (codes "step") then option_map Step (plan_words_of words)
     else if bytes_eq name (codes "check") then option_map Check (plan_words_of words)
     else if bytes_eq name (codes "box") then option_map Box (plan_words_of words)
     else if bytes_eq name (codes "load") then load_of words
     else None
 
+-- the command that has this name, where the words behind it are of its form
+abbrev pub command_named : List ℕ → List (List ℕ) → Option Command
+command_named name words =
+    if bytes_eq name (codes "run") then option_map Run (plan_words_of words) else plain_command_named name words
+
 -- The command of the words, where they are of a form.
 abbrev pub command_of : List (List ℕ) → Option Command
 command_of [] = None
 command_of (name ∷ words) = command_named name words
+
+-- The same where `run` is no command.
+abbrev pub plain_command_of : List (List ℕ) → Option Command
+plain_command_of [] = None
+plain_command_of (name ∷ words) = plain_command_named name words
 
 -- what the words that were read name
 abbrev pub plan_named : NamedFiles → PlanWords

@@ -19,7 +19,7 @@
 //! - `flowed NAME`: the verdicts are that each of the 16,384 datagrams is sent on from its own port.
 //!
 //! A letter stands for the bytes that it has in `letters`, a sign of a text for the words that it has there, and a
-//! semicolon for a line's end.
+//! semicolon for a line's end. A line that begins with two blanks goes on with the one before it.
 
 pub mod balancer;
 pub mod broken;

@@ -1,11 +1,16 @@
 //! The files that a run made, checked, and what its ordinary box answers.
-ghost use Rattle.std.specs.Prelude.{◌≡◌, ◌≤◌, length, IfOk, IfErr, OnOk};
+ghost use Rattle.std.specs.Prelude.{◌≡◌, ◌≤◌, length, List, IfOk, IfErr, OnOk};
 ghost use Rattle.slnf_flight.specs.Lanes.{packet_count};
 ghost use Rattle.slnf_check.specs.Given.{AreRead};
 ghost use Rattle.slnf_check.specs.Checks.{IsRefusedJournal, AreRefused};
 ghost use Rattle.slnf_top.specs.declared.statuses.Status.TheVariants as status;
-ghost use Rattle.slnf_top.specs.Words.{Check, Box, plan_named};
-ghost use Rattle.slnf_top.specs.Checked.{BreaksBy, TellsAccepted, TellsLines};
+ghost use Rattle.slnf_shelf.specs.Shelf.{Faults};
+ghost use Rattle.slnf_top.specs.declared.inputs.Tally.{Tally};
+ghost use Rattle.slnf_top.specs.Words.{Command, Check, Box, plan_named};
+ghost use Rattle.slnf_top.specs.Readings.{inputs_of, no_tally};
+ghost use Rattle.slnf_top.specs.Reached.{Holds};
+ghost use Rattle.slnf_top.specs.Reads.{WereRead};
+ghost use Rattle.slnf_top.specs.Checked.{BreaksBy, IsFound, TellsAccepted, TellsLines};
 ghost use Rattle.slnf_top.specs.Outcome.{Ended};
 
 use crate::forms::PlanWords;
@@ -50,7 +55,7 @@ fn accept<S: Shelf>(
     let inputs = read_inputs(alloc, shelf, words.plan, words.captures)?;
     let files = read_products(alloc, shelf, words.out, words.captures)?;
     let accepted = accepted_file(alloc, state, &inputs, &files)?;
-    write_files(shelf, &[accepted])
+    write_found(shelf, accepted)
 }
 
 /// The file that tells how many entries of a run's journal were accepted, or why the files aren't.
@@ -110,7 +115,18 @@ fn replay<S: Shelf>(
     let inputs = read_inputs(alloc, shelf, words.plan, words.captures)?;
     let journal = read_journal_file(alloc, shelf, words.out)?;
     let lines = lines_file(alloc, state, &inputs, journal.as_slice())?;
-    write_files(shelf, &[lines])
+    write_found(shelf, lines)
+}
+
+/// Writes what was found of the files of a run, behind their reading.
+fn write_found<S: Shelf>(shelf: &mut S, file: File) -> Result<(), Status>
+    ensures { (command : Command) (last : Tally) (before : Faults) (held : Holds)
+        → WereRead (inputs_of command) no_tally last before (S.faults shelf.old) held (S.holds shelf.old)
+        → IsFound command held file
+        → OnOk result (Ended command status.Ok before (S.faults shelf.new) held (S.holds shelf.new))
+        × IfErr result (λ ended. Ended command ended before (S.faults shelf.new) held (S.holds shelf.new)) }
+{
+    write_files(shelf, &[file])
 }
 
 /// The file that tells what the one ordinary box answers to the packets of a run's journal, or why it is no run's.

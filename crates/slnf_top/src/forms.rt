@@ -22,7 +22,7 @@ pub struct LoadWords {
     pub ghost few_packets: { packets ≤ 32768 },
 }
 
-/// The words of a command.
+/// The words of a command but `run`.
 #[derive(Debug, Drop)]
 pub enum CommandWords<'a> {
     Step(PlanWords<'a>),

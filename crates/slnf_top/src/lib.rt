@@ -25,5 +25,5 @@ mod steps;
 mod tests;
 mod words;
 
-pub use commands::top_plain;
+pub use commands::{top, top_plain};
 pub use statuses::Status;

@@ -9,7 +9,8 @@ use std::hash::RandomState;
 use std::test::Fail as Failed;
 
 const PLAN: &[u8] =
-    b"function = \"balancer\"\n[balancer]\nproto = \"udp\"\nservice = \"198.51.100.10:53\"\nbackends = [\"10.1.0.1:53\"]\n[[epoch]]\ninstances = [{ lane = 0 }]\n";
+    b"function = \"balancer\"\n[balancer]\nproto = \"udp\"\nservice = \"198.51.100.10:53\"\n\
+    backends = [\"10.1.0.1:53\"]\n[[epoch]]\ninstances = [{ lane = 0 }]\n";
 
 const HEADER: [u8; 24] =
     *b"\xd4\xc3\xb2\xa1\x02\x00\x04\x00\x00\x00\x00\x00\x00\x00\x00\x00\x00\x00\x04\x00\x65\x00\x00\x00";

@@ -6,7 +6,7 @@ ghost use Rattle.slnf_plan.specs.Reading.{plan_of_bytes};
 ghost use Rattle.slnf_top.specs.Words.{load_named};
 ghost use Rattle.slnf_top.specs.Inputs.{IsLaneOf, AreLanesOf};
 ghost use Rattle.slnf_top.specs.Files.{summary_alone};
-ghost use Rattle.slnf_top.specs.Written.{load_source, IsLoad, IsRunFrom};
+ghost use Rattle.slnf_top.specs.Written.{BySchedule, load_source, IsLoad, IsRunFrom};
 
 use crate::forms::LoadWords;
 use crate::outputs::summary_file;
@@ -28,7 +28,7 @@ pub struct LoadInputs {
 
 /// Makes the load and runs it, for the summary alone.
 pub fn run_load(alloc: Global, state: RandomState, words: &LoadWords) -> Result<Run, NoMemory>
-    ensures run { IfOk result (IsRunFrom summary_alone (load_source (load_named words.now))) }
+    ensures run { IfOk result (IsRunFrom BySchedule summary_alone (load_source (load_named words.now))) }
     ensures none_left { IfOk result (λ run. run.left ≡ 0) }
 {
     let load = load_inputs(alloc, words)?;

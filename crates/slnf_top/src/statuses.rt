@@ -119,7 +119,7 @@ impl fmt::Display for Status {
             Status::Usage => {
                 writeln!(
                     f,
-                    "slnf: usage: step, check or box PLAN OUT IN, or load NUMBER LANES PACKETS"
+                    "slnf: usage: run, step, check or box PLAN OUT IN, or load NUMBER LANES PACKETS"
                 )
             }
             Status::PlanBad(error) => {

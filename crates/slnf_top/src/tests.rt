@@ -1,6 +1,7 @@
 //! The command over files in memory, by the lines of a text.
 ghost use Rattle.std.specs.Prelude.{◌<◌};
 
+mod threads;
 mod transitions;
 
 use super::*;
@@ -110,7 +111,8 @@ impl Scene {
         let (count, epoch) = parted(rest);
         let epochs = spelled(self.alloc, epoch, count.parse()?)?;
         let plan = format!(in self.alloc;
-            "function = \"balancer\"\nshards = {shards}\n[balancer]\nproto = \"{proto}\"\nservice = \"198.51.100.10:53\"\nbackends = [\"10.1.0.1:53\", \"10.1.0.2:53\"]\n{epochs}"
+            "function = \"balancer\"\nshards = {shards}\n[balancer]\nproto = \"{proto}\"\n\
+            service = \"198.51.100.10:53\"\nbackends = [\"10.1.0.1:53\", \"10.1.0.2:53\"]\n{epochs}"
         )?;
         Ok(self.shelf.put("plan.toml", plan.as_bytes())?)
     }
@@ -123,7 +125,8 @@ impl Scene {
         let (high, epochs) = parted(rest);
         let epochs = spelled(self.alloc, epochs, 1)?;
         let plan = format!(in self.alloc;
-            "function = \"nat\"\n{head}\n[nat]\ninside = \"10.0.0.0/8\"\noutside = \"203.0.113.1\"\nports = [{low}, {high}]\n{epochs}"
+            "function = \"nat\"\n{head}\n[nat]\ninside = \"10.0.0.0/8\"\noutside = \"203.0.113.1\"\n\
+            ports = [{low}, {high}]\n{epochs}"
         )?;
         Ok(self.shelf.put("plan.toml", plan.as_bytes())?)
     }
@@ -351,18 +354,24 @@ fn empty(alloc: Global, state: RandomState) -> Scene {
     }
 }
 
+/// The text whose lines go on with those behind them that begin with two blanks.
+fn joined(alloc: Global, lines: &str) -> Result<String, Failed> {
+    Ok(lines.replace(alloc, "\n  ", "")?)
+}
+
 /// Does what each line says, and says which one told what isn't so.
-fn first_wrong<'a>(scene: &mut Scene, lines: &'a str) -> Result<Option<&'a str>, Failed> {
-    for line in lines.lines() {
+fn first_wrong(scene: &mut Scene, lines: &str) -> Result<Option<String>, Failed> {
+    let text = joined(scene.alloc, lines)?;
+    for line in text.as_str().lines() {
         if !scene.follow(line)? {
-            return Ok(Some(line));
+            return Ok(Some(String::from_str(scene.alloc, line)?));
         }
     }
     Ok(None)
 }
 
 /// Which line of a text told what isn't so.
-pub(crate) fn wrong_in<'a>(rt: &HostRuntime, lines: &'a str) -> Result<Option<&'a str>, Failed> {
+pub(crate) fn wrong_in(rt: &HostRuntime, lines: &str) -> Result<Option<String>, Failed> {
     let mut scene = empty(rt.alloc(), RandomState::new(rt)?);
     first_wrong(&mut scene, lines)
 }
@@ -475,17 +484,17 @@ fn is_same(first: &mut Scene, second: &mut Scene, name: &str) -> Result<bool, Fa
 }
 
 /// Which file of a run differs in the two scenes.
-fn first_other(first: &mut Scene, second: &mut Scene) -> Result<Option<&'static str>, Failed> {
+fn first_other(first: &mut Scene, second: &mut Scene) -> Result<Option<String>, Failed> {
     for name in &OUTPUTS {
         if !is_same(first, second, name)? {
-            return Ok(Some(name));
+            return Ok(Some(String::from_str(first.alloc, name)?));
         }
     }
     Ok(None)
 }
 
 /// Which line of the text isn't so, or which file differs, where the text runs in both scenes.
-fn unlike(first: &mut Scene, second: &mut Scene) -> Result<Option<&'static str>, Failed> {
+fn unlike(first: &mut Scene, second: &mut Scene) -> Result<Option<String>, Failed> {
     if let Some(line) = first_wrong(first, cases::many::SEEDS)? {
         return Ok(Some(line));
     }

@@ -1,8 +1,8 @@
-ghost use Rattle.std.specs.Prelude.{◌≡◌, ◌≤◌, ◌+◌, map, option_map, IfSome, string_bytes};
+ghost use Rattle.std.specs.Prelude.{◌≡◌, ◌≤◌, ◌+◌, map, None, Some, option_map, IfSome, string_bytes};
 ghost use Rattle.std.specs.Str.{all_ascii_digits};
 ghost use Rattle.std.specs.List.{list_all};
 ghost use Rattle.slnf_journal.specs.Fields.{is_decimal, within, number_of};
-ghost use Rattle.slnf_top.specs.Words.{is_proper, are_captures, plan_words_of, load_of, command_named, command_of, plan_named, spelled};
+ghost use Rattle.slnf_top.specs.Words.{is_proper, are_captures, plan_words_of, load_of, Run, plain_command_named, plain_command_of, command_of, plan_named, spelled};
 
 use crate::forms::{CommandWords, LoadWords, PlanWords};
 
@@ -126,9 +126,9 @@ fn load_words(words: &[String]) -> Option<CommandWords<'static>>
     }
 }
 
-/// The words of the command that has this name, where those behind it are of its form.
+/// The words of the command that has this name, but `run`, where those behind it are of its form.
 fn words_behind<'a>(name: &str, words: &'a [String]) -> Option<CommandWords<'a>>
-    ensures { option_map spelled result ≡ command_named name.now (map string_bytes words.now) }
+    ensures { option_map spelled result ≡ plain_command_named name.now (map string_bytes words.now) }
 {
     if name == "step" {
         Some(CommandWords::Step(plan_words(words)?))
@@ -143,12 +143,30 @@ fn words_behind<'a>(name: &str, words: &'a [String]) -> Option<CommandWords<'a>>
     }
 }
 
-/// The command of the words, where they are of a form.
-pub fn command_words(words: &[String]) -> Option<CommandWords<'_>>
-    ensures { option_map spelled result ≡ command_of (map string_bytes words.now) }
+/// The command of the words, where `run` is none and they are of a form.
+pub fn plain_command_words(words: &[String]) -> Option<CommandWords<'_>>
+    ensures { option_map spelled result ≡ plain_command_of (map string_bytes words.now) }
 {
     match words {
         [] => None,
         [name, rest @ ..] => words_behind(name.as_str(), rest),
+    }
+}
+
+/// The words behind `run`, where they are of its form.
+pub fn run_words(words: &[String]) -> Option<PlanWords<'_>>
+    ensures run { IfSome result (λ behind. command_of (map string_bytes words.now) ≡ Some (Run (plan_named behind))) }
+    ensures plain { result ≡ None
+        → command_of (map string_bytes words.now) ≡ plain_command_of (map string_bytes words.now) }
+{
+    match words {
+        [] => None,
+        [name, rest @ ..] => {
+            if name.as_str() == "run" {
+                plan_words(rest)
+            } else {
+                None
+            }
+        }
     }
 }

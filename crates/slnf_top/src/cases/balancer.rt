@@ -26,8 +26,10 @@ balancer 1 udp 1 [[epoch]];instances = [{ lane = 0 }];
 in 1 1 h PPrv
 ends 0
 holds out.0.pcap haau
-says out.verdicts slnf verdicts 1;0 0 emit dest 10.1.0.1:53;0 1 emit dest 10.1.0.1:53;0 2 emit source 198.51.100.10:53;0 3 drop 11;
-says out.journal slnf journal 1;1 0 0 0 read K absent;2 0 0 0 put K A done 2;3 0 0 1 read K found A 2;4 0 0 2 read K found A 2;5 0 0 3 read K found A 2;
+says out.verdicts slnf verdicts 1;0 0 emit dest 10.1.0.1:53;0 1 emit dest 10.1.0.1:53;
+  0 2 emit source 198.51.100.10:53;0 3 drop 11;
+says out.journal slnf journal 1;1 0 0 0 read K absent;2 0 0 0 put K A done 2;3 0 0 1 read K found A 2;
+  4 0 0 2 read K found A 2;5 0 0 3 read K found A 2;
 says - packets 4 emitted 3 dropped 1 lost 0 left 0 entries 5;
 
 # What comes back to a client that isn't pinned.
@@ -69,7 +71,8 @@ in 1 1 h PPQ
 ends 0
 holds out.0.pcap hbbc
 says out.verdicts slnf verdicts 1;0 0 emit dest 10.1.0.2:53;0 1 emit dest 10.1.0.2:53;0 2 emit dest 10.1.0.1:53;
-says out.journal slnf journal 1;1 0 0 0 read K absent;2 0 0 0 put K B done 2;3 0 1 1 read K found B 2;4 0 1 2 read L absent;5 0 1 2 put L A done 5;
+says out.journal slnf journal 1;1 0 0 0 read K absent;2 0 0 0 put K B done 2;3 0 1 1 read K found B 2;
+  4 0 1 2 read L absent;5 0 1 2 put L A done 5;
 says - packets 3 emitted 3 dropped 0 lost 0 left 0 entries 5;
 
 # A service over TCP has no datagrams.
@@ -91,8 +94,10 @@ balancer 1 udp 1 [[epoch]];instances = [{ lane = 0, quota = 3 }];[[epoch]];insta
 in 1 5 h P
 ends 1
 holds out.0.pcap haaaa
-says out.verdicts slnf verdicts 1;0 0 emit dest 10.1.0.1:53;0 1 emit dest 10.1.0.1:53;0 2 emit dest 10.1.0.1:53;0 3 emit dest 10.1.0.1:53;0 4 left;
-says out.journal slnf journal 1;1 0 0 0 read K absent;2 0 0 0 put K A done 2;3 0 0 1 read K found A 2;4 0 0 2 read K found A 2;5 0 1 3 read K found A 2;
+says out.verdicts slnf verdicts 1;0 0 emit dest 10.1.0.1:53;0 1 emit dest 10.1.0.1:53;0 2 emit dest 10.1.0.1:53;
+  0 3 emit dest 10.1.0.1:53;0 4 left;
+says out.journal slnf journal 1;1 0 0 0 read K absent;2 0 0 0 put K A done 2;3 0 0 1 read K found A 2;
+  4 0 0 2 read K found A 2;5 0 1 3 read K found A 2;
 says - packets 5 emitted 4 dropped 0 lost 0 left 1 entries 5;
 
 # A stop before the record, and one behind it.

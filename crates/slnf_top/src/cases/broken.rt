@@ -159,7 +159,9 @@ unread Line(2) slnf journal 1;1 0 0 0 delete K absent;
 unread Line(2) slnf journal 1;1 0 0 0;
 
 # The first of several lines that are no entries, and a line of each form that is one.
-unread Line(6) slnf journal 1;1 0 0 0 read K absent;2 0 0 0 put K A done 2;3 0 0 0 replace K 2 B done 3;4 0 0 0 delete K 3 found B 3;x;y;
-put out.journal slnf journal 1;1 0 0 0 read K absent;2 0 0 0 put K A done 2;3 0 0 0 replace K 2 B done 3;4 0 0 0 delete K 3 found B 3;
+unread Line(6) slnf journal 1;1 0 0 0 read K absent;2 0 0 0 put K A done 2;3 0 0 0 replace K 2 B done 3;
+  4 0 0 0 delete K 3 found B 3;x;y;
+put out.journal slnf journal 1;1 0 0 0 read K absent;2 0 0 0 put K A done 2;3 0 0 0 replace K 2 B done 3;
+  4 0 0 0 delete K 3 found B 3;
 breaks check 3 Entry(4)
 "#;

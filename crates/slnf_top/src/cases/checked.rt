@@ -31,27 +31,32 @@ says - 2 0 0 emit dest 10.1.0.1:53;
 
 # The packets of a batch in another order within a round, and one behind the other.
 start
-toml function = "balancer";shards = 1;batch = 3;[balancer];proto = "udp";service = "198.51.100.10:53";backends = ["10.1.0.1:53", "10.1.0.2:53"];[[epoch]];instances = [{ lane = 0 }];
+toml function = "balancer";shards = 1;batch = 3;[balancer];proto = "udp";service = "198.51.100.10:53";
+  backends = ["10.1.0.1:53", "10.1.0.2:53"];[[epoch]];instances = [{ lane = 0 }];
 in 1 1 h PQP
 ends 0
-put out.journal slnf journal 1;1 0 0 1 read L absent;2 0 0 0 read K absent;3 0 0 1 put L B done 3;4 0 0 0 put K A done 4;5 0 0 2 read K found A 4;
+put out.journal slnf journal 1;1 0 0 1 read L absent;2 0 0 0 read K absent;3 0 0 1 put L B done 3;
+  4 0 0 0 put K A done 4;5 0 0 2 read K found A 4;
 runs check 0
 says - accepted entries 5;
 runs box 0
 says - 3 0 1 emit dest 10.1.0.2:53;4 0 0 emit dest 10.1.0.1:53;5 0 2 emit dest 10.1.0.1:53;
-put out.journal slnf journal 1;1 0 0 1 read L absent;2 0 0 1 put L B done 2;3 0 0 0 read K absent;4 0 0 0 put K A done 4;5 0 0 2 read K found A 4;
+put out.journal slnf journal 1;1 0 0 1 read L absent;2 0 0 1 put L B done 2;3 0 0 0 read K absent;
+  4 0 0 0 put K A done 4;5 0 0 2 read K found A 4;
 runs check 0
 says - accepted entries 5;
 runs box 0
 says - 2 0 1 emit dest 10.1.0.2:53;4 0 0 emit dest 10.1.0.1:53;5 0 2 emit dest 10.1.0.1:53;
 
 # Stamps need not be the least ones.
-put out.journal slnf journal 1;5 0 0 0 read K absent;7 0 0 1 read L absent;9 0 0 0 put K A done 9;10 0 0 1 put L B done 10;4611686018427387903 0 0 2 read K found A 9;
+put out.journal slnf journal 1;5 0 0 0 read K absent;7 0 0 1 read L absent;9 0 0 0 put K A done 9;
+  10 0 0 1 put L B done 10;4611686018427387903 0 0 2 read K found A 9;
 runs check 0
 says - accepted entries 5;
 
 # A packet of the next batch before the one in hand has ended.
-put out.journal slnf journal 1;1 0 0 0 read K absent;2 0 0 1 read L absent;3 0 0 0 put K A done 3;4 0 0 2 read K found A 3;5 0 0 1 put L B done 5;
+put out.journal slnf journal 1;1 0 0 0 read K absent;2 0 0 1 read L absent;3 0 0 0 put K A done 3;
+  4 0 0 2 read K found A 3;5 0 0 1 put L B done 5;
 breaks check 4 Entry(4)
 breaks box 4 Entry(4)
 
@@ -176,7 +181,8 @@ says - 3 0 0 emit source 203.0.113.1:40000;6 0 1 drop 6;
 
 # A sweep has no packets, and an orphan no place.
 start
-nat shards=1 40000 40001 [[epoch]];instances = [{ lane = 0, stop = 2 }];[[epoch]];instances = [{ lane = 1 }];sweep = true;schedule = [0, 0, 1, 1, 1, 1, 0];
+nat shards=1 40000 40001 [[epoch]];instances = [{ lane = 0, stop = 2 }];[[epoch]];instances = [{ lane = 1 }];
+  sweep = true;schedule = [0, 0, 1, 1, 1, 1, 0];
 in 1 1 h 1
 in 1 1 h 6
 ends 0

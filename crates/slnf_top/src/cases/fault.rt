@@ -73,6 +73,7 @@ balancer 1 udp 1 [[epoch]];instances = [{ lane = 0 }];
 in 1 1 h P
 words 2
 words 2 run plan.toml
+words 2 run plan.toml out in.0.pcap
 words 2 step -p out in.0.pcap
 words 2 step plan.toml out
 words 0 step plan.toml in in.0.pcap
@@ -80,7 +81,7 @@ holds in.0.pcap ha
 start
 balancer 1 udp 1 [[epoch]];instances = [{ lane = 31 }];
 in 33 1 h P
-ends 2 slnf: usage: step, check or box PLAN OUT IN, or load NUMBER LANES PACKETS;
+ends 2 slnf: usage: run, step, check or box PLAN OUT IN, or load NUMBER LANES PACKETS;
 "#;
 
 /// Captures and plans that are refused.

@@ -18,5 +18,6 @@ returns-in_err-accepted-clause-refused c =
     (status_of_check error) refl
     (subst (λ (ls : List Lane). IfRefused (AreRefused inputs.plan ls inputs.captures.given files) error)
     c.as_slice-lanes.ensures
-    (subst (λ (gs : List Given). IfRefused (AreRefused inputs.plan c.as_slice-lanes.result.now gs files) error) c.as_slice-given.ensures
+    (subst (λ (gs : List Given). IfRefused (AreRefused inputs.plan c.as_slice-lanes.result.now gs files) error)
+    c.as_slice-given.ensures
     c.in_err-accepted.ensures.refused)))

@@ -1,55 +1,24 @@
-use Rattle.std.proofs.Common.{map}
+use Rattle.std.proofs.Common.{map, sym}
 use Rattle.std.specs.Prelude.{string_bytes}
-use Rattle.slnf_top.specs.Readings.{inputs_of}
-use Rattle.slnf_top.proofs.Answering.{first_of, follows_plan, completes, ended_as}
+use Rattle.slnf_top.specs.Words.{plain_command_of, spelled}
 use Rattle.slnf_top.proofs.Exact.{judged_exactly}
+use Rattle.slnf_top.proofs.Serving.{served, formless}
 use Rattle.slnf_top.proofs.commands.top_plain.Goals as goal
 
-pub returns-in-Some-clause-plan_refused : goal.returns-in-Some-clause-plan_refused
-returns-in-Some-clause-plan_refused g c = λ command is plan bytes named plan_at.
-    let a = g.S.Shelf.faults c.args.shelf.now in
-    let b = g.S.Shelf.faults c.run_command.new.shelf in
-    let held = g.S.Shelf.holds c.args.shelf.now in
-    let holds = g.S.Shelf.holds c.run_command.new.shelf in
-    let ended = c.run_command.result in
-    let all =
-    ended_as (map string_bytes c.args.words.now) _ command ended a b held holds c.in-Some.ensures is
-    c.run_command.ensures in
-    follows_plan command ended a b held holds plan bytes all named plan_at
+pub returns-in-None : goal.returns-in-None
+returns-in-None g c =
+    formless (plain_command_of (map string_bytes c.args.words.now)) (g.S.Shelf.faults c.args.shelf.now)
+    (g.S.Shelf.holds c.args.shelf.now) (sym c.in-None.ensures)
 
-pub returns-in-Some-clause-first_refused : goal.returns-in-Some-clause-first_refused
-returns-in-Some-clause-first_refused g c = λ command bytes is are refusing.
+pub returns-in-Some : goal.returns-in-Some
+returns-in-Some g c =
     let a = g.S.Shelf.faults c.args.shelf.now in
     let b = g.S.Shelf.faults c.run_command.new.shelf in
     let held = g.S.Shelf.holds c.args.shelf.now in
     let holds = g.S.Shelf.holds c.run_command.new.shelf in
     let ended = c.run_command.result in
-    let all =
-    ended_as (map string_bytes c.args.words.now) _ command ended a b held holds c.in-Some.ensures is
-    c.run_command.ensures in
-    first_of held (inputs_of command) ended bytes (all.reached refusing) are
-
-pub returns-in-Some-clause-answered : goal.returns-in-Some-clause-answered
-returns-in-Some-clause-answered g c = λ command bytes is are none still.
-    let a = g.S.Shelf.faults c.args.shelf.now in
-    let b = g.S.Shelf.faults c.run_command.new.shelf in
-    let held = g.S.Shelf.holds c.args.shelf.now in
-    let holds = g.S.Shelf.holds c.run_command.new.shelf in
-    let ended = c.run_command.result in
-    let all =
-    ended_as (map string_bytes c.args.words.now) _ command ended a b held holds c.in-Some.ensures is
-    c.run_command.ensures in
-    completes command ended a b held holds bytes all are none still
-
-pub returns-in-Some-clause-exactly : goal.returns-in-Some-clause-exactly
-returns-in-Some-clause-exactly g c = λ command is judged.
-    let a = g.S.Shelf.faults c.args.shelf.now in
-    let b = g.S.Shelf.faults c.run_command.new.shelf in
-    let held = g.S.Shelf.holds c.args.shelf.now in
-    let holds = g.S.Shelf.holds c.run_command.new.shelf in
-    let ended = c.run_command.result in
-    let all =
-    ended_as (map string_bytes c.args.words.now) _ command ended a b held holds c.in-Some.ensures is
-    c.run_command.ensures in
-    judged_exactly c.checks_tell.ensures.apart c.checks_tell.ensures.one_refusal c.follows_tell.ensures.apart
-    c.follows_tell.ensures.one_refusal ended held holds command a b all judged
+    let found = spelled c.in-Some.command in
+    served (plain_command_of (map string_bytes c.args.words.now)) found ended a b held holds (sym c.in-Some.ensures)
+    c.run_command.ensures
+    (judged_exactly c.checks_tell.ensures.apart c.checks_tell.ensures.one_refusal c.follows_tell.ensures.apart
+    c.follows_tell.ensures.one_refusal ended held holds found a b c.run_command.ensures)

@@ -3,7 +3,7 @@ use Rattle.slnf_flight.specs.declared.lanes.Lane.{Lane}
 use Rattle.slnf_top.specs.declared.outputs.File.{File}
 use Rattle.slnf_top.specs.declared.steps.Run.{Run}
 use Rattle.slnf_top.specs.Words.{load_named}
-use Rattle.slnf_top.specs.Written.{IsOutcome}
+use Rattle.slnf_top.specs.Written.{BySchedule, IsOutcome}
 use Rattle.slnf_top.proofs.Loading.{load_lanes, load_run, load_leaves_none}
 use Rattle.slnf_top.proofs.loads.run_load.Goals as goal
 
@@ -19,7 +19,7 @@ pub returns-clause-run : goal.returns-clause-run
 returns-clause-run c =
     let run : Run = record { files = c.from_vec.result; left = c.in_ok-outcome.outcome.left } in
     load_run (load_named c.args.words.now) c.in_ok-load.load c.in_ok-outcome.outcome run c.in_ok-load.ensures
-    (subst (λ (ls : List Lane). IsOutcome c.in_ok-load.load.plan ls c.in_ok-outcome.outcome) c.as_slice.ensures
+    (subst (λ (ls : List Lane). IsOutcome BySchedule c.in_ok-load.load.plan ls c.in_ok-outcome.outcome) c.as_slice.ensures
     c.in_ok-outcome.ensures)
     (c.from_vec.ensures ∙ c.in_ok-vec.ensures.items ∙ ap (λ (f : File). f ∷ []) c.in_ok-summary.ensures) refl
 
@@ -28,5 +28,5 @@ returns-clause-none_left c =
     let run : Run = record { files = c.from_vec.result; left = c.in_ok-outcome.outcome.left } in
     load_leaves_none (load_named c.args.words.now) c.in_ok-load.load c.in_ok-outcome.outcome run
     c.in_ok-load.ensures
-    (subst (λ (ls : List Lane). IsOutcome c.in_ok-load.load.plan ls c.in_ok-outcome.outcome) c.as_slice.ensures
+    (subst (λ (ls : List Lane). IsOutcome BySchedule c.in_ok-load.load.plan ls c.in_ok-outcome.outcome) c.as_slice.ensures
     c.in_ok-outcome.ensures) refl

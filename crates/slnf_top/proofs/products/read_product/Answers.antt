@@ -16,7 +16,8 @@ returns-clause-refused g c =
     let holds = g.S.Shelf.holds c.read_within.new.shelf in
     product_if_err c.args.product name a b held holds c.read_within.result c.read_within.ensures.counts
     c.read_within.ensures.still c.read_within.ensures.files
-    (subst (λ (most : ℕ). IfErr c.read_within.result (Refuses (Rose Read name a b) (IsOver (limit_of c.args.product) most (held name))))
+    (subst (λ (most : ℕ). IfErr c.read_within.result
+    (Refuses (Rose Read name a b) (IsOver (limit_of c.args.product) most (held name))))
     c.most.ensures.value
     (subst (λ (limit : ℕ). IfErr c.read_within.result (Refuses (Rose Read name a b) (IsOver limit c.most.result (held name))))
     c.limit.ensures c.read_within.ensures.refused))
