@@ -64,18 +64,20 @@ for accesses in 10000 100000 1000000; do
     printf '%10d  %8.3f %8.3f  %8.3f %8.3f  %s\n' "$accesses" "$clock" "$plain_clock" "$processor" "$plain_processor" "${said##* }"
 done
 
-# As many rounds in all, whatever the threads. The last columns say how often the time of one thread goes into that of these.
+# As many rounds in all, whatever the threads. A turn is of one access, or of as many looks, and then writes, of one shard's keys.
+# The last columns say how often the time of one thread goes into that of these.
 rounds=2000000
-printf '\n%6s %7s %9s  %17s  %17s\n' '' '' '' 'clock' 'one thread over it'
-printf '%6s %7s %9s  %8s %8s  %8s %8s\n' shards threads accesses proved mutexes proved mutexes
-for shards in 1 64; do
+printf '\n%6s %5s %7s %9s  %17s  %17s\n' '' '' '' '' 'clock' 'one thread over it'
+printf '%6s %5s %7s %9s  %8s %8s  %8s %8s\n' shards turn threads accesses proved mutexes proved mutexes
+for load in '1 1' '64 1' '64 8' '64 32'; do
+    read -r shards turn <<<"$load"
     for count in 1 2 4; do
-        words=("$count" "$shards" $((rounds / count)))
+        words=("$count" "$shards" $((rounds / count)) "$turn")
         said=$(same "$threads" "$folder/threads_plain" "${words[@]}")
         read -r accesses < <(awk '{ print $2 }' <<<"$said")
         read -r clock plain_clock _ _ < <(timed "$threads" "$folder/threads_plain" "${words[@]}" | best)
         if [ "$count" = 1 ]; then one=$clock plain_one=$plain_clock; fi
-        awk -v shards="$shards" -v threads="$count" -v accesses="$accesses" -v clock="$clock" -v plain="$plain_clock" -v one="$one" -v plain_one="$plain_one" \
-            'BEGIN { printf "%6d %7d %9d  %8.3f %8.3f  %8.2f %8.2f\n", shards, threads, accesses, clock, plain, one / clock, plain_one / plain }'
+        awk -v shards="$shards" -v turn="$turn" -v threads="$count" -v accesses="$accesses" -v clock="$clock" -v plain="$plain_clock" -v one="$one" -v plain_one="$plain_one" \
+            'BEGIN { printf "%6d %5d %7d %9d  %8.3f %8.3f  %8.2f %8.2f\n", shards, turn, threads, accesses, clock, plain, one / clock, plain_one / plain }'
     done
 done

@@ -57,16 +57,26 @@ public:
     // The pass's clock becomes the stamp of its access.
     Reply access(u64 incarnation, u64 item, u64& pass_clock, const Request& request) {
         std::lock_guard<std::mutex> turn(mutex);
-        clock = pass_clock = std::max(clock, pass_clock) + 1;
-        Reply reply = made(request, clock);
-        entries.push_back({clock, number, incarnation, item, request, reply});
-        return reply;
+        return kept(incarnation, item, pass_clock, request);
+    }
+
+    // The same for several requests, under the mutex once.
+    void access_many(u64 incarnation, u64 item, u64& pass_clock, const Request* requests, Reply* replies, std::size_t count) {
+        std::lock_guard<std::mutex> turn(mutex);
+        for (std::size_t i = 0; i < count; i++) replies[i] = kept(incarnation, item, pass_clock, requests[i]);
     }
 
     std::uint32_t number = 0;
     std::vector<Entry> entries;
 
 private:
+    Reply kept(u64 incarnation, u64 item, u64& pass_clock, const Request& request) {
+        clock = pass_clock = std::max(clock, pass_clock) + 1;
+        Reply reply = made(request, clock);
+        entries.push_back({clock, number, incarnation, item, request, reply});
+        return reply;
+    }
+
     Reply made(const Request& request, u64 stamp) {
         auto found = held.find(request.key);
         if (found == held.end()) {
@@ -95,6 +105,10 @@ public:
 
     Reply access(u64 incarnation, u64 item, u64& pass_clock, const Request& request) {
         return shards[std::size_t(request.key % count)].access(incarnation, item, pass_clock, request);
+    }
+
+    void access_many(u64 incarnation, u64 item, u64& pass_clock, const Request* requests, Reply* replies, std::size_t count) {
+        if (count) shards[std::size_t(requests[0].key % this->count)].access_many(incarnation, item, pass_clock, requests, replies, count);
     }
 
     std::size_t entries() const {
@@ -143,14 +157,44 @@ static u64 work(Store& store, u64 caller, u64 callers, u64 rounds) {
     return sum;
 }
 
+// The same with keys of one shard at a time, which are looked up in one turn and written in a second.
+static u64 work_in_turns(Store& store, u64 caller, u64 callers, u64 rounds, u64 shards, u64 turn) {
+    u64 keys = 16384 / callers;
+    u64 state = caller;
+    u64 clock = 0;
+    u64 sum = 0;
+    u64 drawn[32];
+    Request requests[32];
+    Reply replies[32];
+    for (u64 item = 0; item < rounds / turn; item++) {
+        u64 left = next_word(state) % shards;
+        for (u64 i = 0; i < turn; i++) {
+            drawn[i] = next_word(state);
+            u128 key = (u128(0x0411) << 112) + (u128(caller) << 16) + left + u128((drawn[i] >> 32) % (keys / shards)) * shards;
+            requests[i] = {Kind::Read, key, 0, 0};
+        }
+        store.access_many(caller, item, clock, requests, replies, turn);
+        u64 count = 0;
+        for (u64 i = 0; i < turn; i++) {
+            sum = with_reply(sum, replies[i]);
+            if (auto request = written(drawn[i], requests[i].key, replies[i])) requests[count++] = *request;
+        }
+        store.access_many(caller, item, clock, requests, replies, count);
+        for (u64 i = 0; i < count; i++) sum = with_reply(sum, replies[i]);
+    }
+    return sum;
+}
+
 int main(int count, char** words) {
     auto word = [&](int place, u64 otherwise) { return count > place ? std::strtoull(words[place], nullptr, 10) : otherwise; };
-    u64 callers = word(1, 4), shards = word(2, 8), rounds = word(3, 1000);
+    u64 callers = word(1, 4), shards = word(2, 8), rounds = word(3, 1000), turn = word(4, 1);
     Store store(static_cast<std::uint32_t>(shards));
     std::vector<u64> sums(callers);
     std::vector<std::thread> threads;
     for (u64 caller = 0; caller < callers; caller++)
-        threads.emplace_back([&, caller] { sums[caller] = work(store, caller, callers, rounds); });
+        threads.emplace_back([&, caller] {
+            sums[caller] = turn == 1 ? work(store, caller, callers, rounds) : work_in_turns(store, caller, callers, rounds, shards, turn);
+        });
     u64 sum = 0;
     for (u64 caller = 0; caller < callers; caller++) {
         threads[caller].join();

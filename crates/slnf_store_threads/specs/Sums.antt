@@ -18,3 +18,8 @@ with_reply sum reply = (sum * 31 + told_by reply) % 2 ^ 64
 abbrev pub with_replies : ℕ → List Entry → ℕ
 with_replies sum [] = sum
 with_replies sum (e ∷ es) = with_replies (with_reply sum e.reply) es
+
+-- the checksum with these replies more
+abbrev pub with_all : ℕ → List Reply → ℕ
+with_all sum [] = sum
+with_all sum (r ∷ rs) = with_all (with_reply sum r) rs

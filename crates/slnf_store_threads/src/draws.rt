@@ -16,7 +16,7 @@ pub struct Draws {
     words: SplitMix64,
     caller: u64,
     keys: u64,
-    ghost some: { 0 < keys },
+    ghost some: { 64 ≤ keys },
 }
 
 /// A key, and the word that says what becomes of it.
@@ -43,6 +43,30 @@ impl Draws {
         let word = self.words.next_u64();
         let place = (word >> 32) % self.keys;
         let key = FIRST_KEY + (u128::from(self.caller) << 16) + u128::from(place);
+        Draw {
+            key: Key(key),
+            word,
+        }
+    }
+}
+
+impl Draws {
+    /// The shard of the next keys that are to be of one, as a number that their places leave over the count of shards.
+    pub(crate) fn next_left(&mut self, shards: u32) -> u64
+        requires { (0 < shards) × (shards ≤ 64) }
+    {
+        self.words.next_u64() % u64::from(shards)
+    }
+
+    /// The next round at a place that leaves so much, so that all keys of one `left` are of one shard.
+    pub(crate) fn next_at(&mut self, left: u64, shards: u32) -> Draw
+        requires { (0 < shards) × (shards ≤ 64) }
+    {
+        let word = self.words.next_u64();
+        let shards = u64::from(shards);
+        let place = (word >> 32) % (self.keys / shards);
+        let first = FIRST_KEY + (u128::from(self.caller) << 16) + u128::from(left);
+        let key = first + u128::from(place) * u128::from(shards);
         Draw {
             key: Key(key),
             word,

@@ -7,8 +7,9 @@ mod loads;
 mod rounds;
 mod runs;
 mod sums;
+mod turns;
 
-use crate::loads::{Load, MOST_CALLERS, MOST_SHARDS};
+use crate::loads::{Load, MOST_CALLERS, MOST_OF_TURN, MOST_SHARDS};
 use crate::runs::{count, run};
 use anyhow::{Context, Result, bail};
 use std::env;
@@ -19,15 +20,12 @@ const SMALL: Load = Load {
     callers: 4,
     shards: 8,
     rounds: 1000,
+    turn: 1,
 };
 
 fn main(rt: HostRuntime) -> Result<()> {
     let words: Vec<String> = env::args(&rt)?.skip(1).collect(rt.alloc())?;
-    let load = match words.as_slice() {
-        [] => SMALL,
-        [callers, shards, rounds] => load_of(number(callers)?, number(shards)?, number(rounds)?)?,
-        _ => bail!("no words, or three: the threads, the shards and each thread's rounds"),
-    };
+    let load = load_of_words(words.as_slice())?;
     let ran = run(&rt, rt.alloc(), RandomState::new(&rt)?, load)?;
     let sum = ran.sum;
     let accesses = count(ran.histories.as_slice());
@@ -35,20 +33,42 @@ fn main(rt: HostRuntime) -> Result<()> {
     Ok(())
 }
 
+fn load_of_words(words: &[String]) -> Result<Load> {
+    match words {
+        [] => Ok(SMALL),
+        [callers, shards, rounds] => {
+            load_of(number(callers)?, number(shards)?, number(rounds)?, 1)
+        }
+        [callers, shards, rounds, turn] => load_of(
+            number(callers)?,
+            number(shards)?,
+            number(rounds)?,
+            number(turn)?,
+        ),
+        _ => bail!(
+            "no words, or three or four: the threads, the shards, each thread's rounds, the accesses of a turn"
+        ),
+    }
+}
+
 fn number(word: &String) -> Result<u32> {
     word.as_str().parse::<u32>().context("a number")
 }
 
-fn load_of(callers: u32, shards: u32, rounds: u32) -> Result<Load> {
+fn load_of(callers: u32, shards: u32, rounds: u32, turn: u32) -> Result<Load> {
     if callers == 0 || callers > MOST_CALLERS {
         bail!("1 to 64 threads");
     }
     if shards == 0 || shards > MOST_SHARDS {
         bail!("1 to 64 shards");
     }
+    if turn == 0 || turn > MOST_OF_TURN {
+        bail!("1 to 32 accesses of a turn");
+    }
     Ok(Load {
         callers,
         shards,
         rounds,
+        turn,
     })
 }

@@ -2,7 +2,7 @@
 ghost use Rattle.std.specs.Prelude.{◌≡◌, ◌≤◌, All, [], map, length, IfOk, vec_len};
 ghost use Rattle.slnf_merge.specs.Merge.{EachLegal};
 ghost use Rattle.slnf_turns.specs.Passes.{IsRoot};
-ghost use Rattle.slnf_store.specs.Stores.{IsOf};
+ghost use Rattle.slnf_store.specs.Stores.{IsOf, shards_of};
 ghost use Rattle.slnf_store_threads.specs.Callers.{IsCaller, IsFresh};
 
 use crate::callers::{Report, work};
@@ -52,7 +52,8 @@ fn side_by_side<R: Threads + Wait + Sync>(
     load: Load,
     passes: Vec<StorePass>,
 ) -> Result<Vec<Report>>
-    requires { All (IsFresh store.now) passes.items }
+    requires passes { All (IsFresh store.now) passes.items }
+    requires shards { load.shards ≡ shards_of store.now }
     ensures count { IfOk result (λ reports. vec_len reports ≡ vec_len passes) }
     ensures reports { IfOk result (λ reports. All (λ report. IsCaller store.now report.pass) reports.items) }
 {
@@ -60,7 +61,7 @@ fn side_by_side<R: Threads + Wait + Sync>(
         rt,
         passes,
         &|pass: StorePass| -> Report
-            requires { IsFresh store.now pass }
+            requires { IsFresh store.now pass × (load.shards ≡ shards_of store.now) }
             ensures { IsCaller store.entry.now result.pass }
         { work(rt, store, load, pass) },
     )?;
