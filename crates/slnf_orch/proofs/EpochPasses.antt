@@ -1,15 +1,13 @@
 -- An epoch of a plan, from its crew to its end.
-use Rattle.std.proofs.Common.{◌≡◌, ℕ, zero, suc, ◌+◌, ◌≤◌, ◌<◌, ◌^◌, Some, None, List, [], ◌∷◌, ◌++◌, length, map, slice_get, option_map, refl, sym, ap, ◌∙◌, subst, arith}
+use Rattle.std.proofs.Common.{◌≡◌, ℕ, ◌+◌, ◌≤◌, ◌<◌, ◌^◌, Some, List, [], ◌++◌, length, map, slice_get, option_map, refl, ap, ◌∙◌, subst, arith}
 use Rattle.std.specs.List.{repeat}
 use Rattle.std.specs.Prelude.{replicate}
 use Rattle.std.proofs.lemmas.List.{length-append, length-map, length-replicate}
-use Rattle.std.proofs.lemmas.Option.{same_Some, slice_get-map, slice_get_within}
+use Rattle.std.proofs.lemmas.Option.{slice_get-map, slice_get_within}
 use Rattle.slnf_base.specs.declared.packets.Verdict.{Verdict}
 use Rattle.slnf_access.specs.declared.requests.Entry.{Entry}
 use Rattle.slnf_plan.specs.declared.plan.Epoch.{Epoch}
 use Rattle.slnf_plan.specs.declared.plan.InstancePlan.{InstancePlan}
-use Rattle.slnf_plan.specs.declared.plan.SweepPlan.{SweepPlan}
-use Rattle.slnf_plan.specs.declared.plan.SweepPlan.TheVariants.{No, Yes}
 use Rattle.slnf_plan.specs.declared.plan.Plan.{Plan}
 use Rattle.slnf_run.specs.Setting.{Actor}
 use Rattle.slnf_run.specs.Jobs.{job_of}
@@ -30,10 +28,10 @@ use Rattle.slnf_flight.specs.PlanSetting.{setting_of}
 use Rattle.slnf_crew.specs.declared.items.ActorItems.{ActorItems}
 use Rattle.slnf_crew.specs.Errands.{items_work, IsWorkOn, errand_of}
 use Rattle.slnf_orch.specs.Actors.{Stage, at_work, turns_in, AreStanding, AreDone, HasRoom}
-use Rattle.slnf_orch.specs.Hiring.{place_at, AreHired}
-use Rattle.slnf_orch.specs.Ledger.{verdicts_at, places_in, DoStand, given_from}
+use Rattle.slnf_ledger.specs.Ledger.{verdicts_at, places_in, given_from}
+use Rattle.slnf_orch.specs.Hiring.{DoStand, AreHired}
 use Rattle.slnf_orch.specs.Passing.{IsUnderWay}
-use Rattle.slnf_orch.proofs.Giving.{job_there}
+use Rattle.slnf_ledger.proofs.Giving.{job_there}
 use Rattle.slnf_orch.proofs.Places.{some_at}
 use Rattle.slnf_orch.proofs.Plain.{nobody_plain}
 use Rattle.slnf_orch.proofs.SettingOut.{stage_of, standing_first, room_first, one_number}
@@ -45,24 +43,6 @@ pub instance_at : (epoch : Epoch) (k : ℕ) (i : InstancePlan) → slice_get epo
 instance_at epoch k i at =
     slice_get-append_left (map instance_actor epoch.instances) (sweep_actors epoch.sweep) k (instance_actor i)
     (slice_get-map instance_actor epoch.instances k ∙ ap (option_map instance_actor) at)
-
--- how far the lane of an epoch's actor has come: an instance's own, and a sweep, behind the instances, has none
-pub actor_place : (epoch : Epoch) (places : ℕ → ℕ) (k : ℕ) (actor : Actor) →
-    slice_get (era_of_epoch epoch).actors k ≡ Some actor → at_lane places actor ≡ place_at places epoch.instances k
-actor_place epoch places k actor at = go epoch.instances k at
-  where
-    of_sweep : (sweep : SweepPlan) (k : ℕ) → slice_get (sweep_actors sweep) k ≡ Some actor → at_lane places actor ≡ 0
-    of_sweep No k at = absurd (cc)
-    of_sweep (Yes stop) zero at =
-        ap (at_lane places) (sym (same_Some (record { lane = None; quota = None; stop = stop }) actor at))
-    of_sweep (Yes stop) (suc k) at = absurd (cc)
-
-    go : (instances : List InstancePlan) (k : ℕ) →
-        slice_get (map instance_actor instances ++ sweep_actors epoch.sweep) k ≡ Some actor →
-        at_lane places actor ≡ place_at places instances k
-    go [] k at = of_sweep epoch.sweep k at
-    go (i ∷ instances) zero at = ap (at_lane places) (sym (same_Some (instance_actor i) actor at))
-    go (i ∷ instances) (suc k) at = go instances k at
 
 -- an epoch has no more instances than actors
 pub instances_most : {X : Type 0} (epoch : Epoch) (crew : List X) → length crew ≡ length (era_of_epoch epoch).actors →

@@ -7,7 +7,7 @@ use Rattle.slnf_run.specs.Parts.{part_of, at_lane, taken_on, taken_of, offers_of
 use Rattle.slnf_run.specs.OneBox.{HasLanesOnce}
 use Rattle.slnf_run.proofs.LanePosts.{at_of_lane}
 use Rattle.slnf_run.proofs.TakenRows.{taken_most}
-use Rattle.slnf_orch.proofs.Apart.{NoneOn, none_on, rest_once, none_rest, not_so, either_way}
+use Rattle.slnf_ledger.proofs.Apart.{NoneOn, none_on, rest_once, none_rest, not_so, either_way}
 
 module _ {F A : Type 0} (s : Setting F A) (es : List Entry) (places : ℕ → ℕ) (lane : ℕ) where
   -- actors that aren't on the lane take nothing of it

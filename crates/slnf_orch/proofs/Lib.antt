@@ -1,11 +1,6 @@
-mod Apart
 mod Closing
 mod EpochPasses
-mod Filling
 mod Fitting
-mod Giving
-mod Handing
-mod Leaving
 mod Live
 mod Making
 mod Places

@@ -1,27 +1,23 @@
 -- What the ledger tells behind an epoch.
-use Rattle.std.proofs.Common.{◌≡◌, inl, inr, ℕ, suc, zero, ◌+◌, ◌-◌, ◌<◌, ◌≤◌, if◌then◌else◌, Some, None, List, [], ◌∷◌, ◌++◌, drop, length, map, slice_get, refl, sym, ap, ◌∙◌, arith, append-nil}
+use Rattle.std.proofs.Common.{◌≡◌, ℕ, ◌+◌, ◌<◌, ◌≤◌, if◌then◌else◌, Some, List, [], ◌∷◌, ◌++◌, length, slice_get, refl, sym, ap, ◌∙◌, arith, append-nil}
 use Rattle.std.specs.List.{repeat}
-use Rattle.std.proofs.Math.Path.{fun_ext}
-use Rattle.std.proofs.lemmas.Bool.{cases_lt}
-use Rattle.std.proofs.lemmas.List.{length-append}
 use Rattle.slnf_base.specs.declared.packets.Verdict.{Verdict}
 use Rattle.slnf_access.specs.declared.requests.Entry.{Entry}
 use Rattle.slnf_run.specs.Setting.{Actor, Era, Setting, is_on}
 use Rattle.slnf_run.specs.Made.{Grown}
-use Rattle.slnf_run.specs.Parts.{part_of, places_after, Post, posts_from}
+use Rattle.slnf_run.specs.Parts.{part_of, places_after}
 use Rattle.slnf_run.specs.Scheduled.{usual_way, turns, round}
-use Rattle.slnf_run.specs.Verdicts.{verdict_of, verdict_among}
 use Rattle.slnf_run.specs.OneBox.{HasLanesOnce}
 use Rattle.slnf_run.specs.SoFar.{Passes}
 use Rattle.slnf_run.proofs.Growth.{Extends}
 use Rattle.slnf_run.proofs.Parting.{part_of-append, part_of-other}
-use Rattle.slnf_run.proofs.Passing.{drop_from}
 use Rattle.slnf_run.proofs.Turns.{IsWithin, turns_within}
 use Rattle.slnf_instance.specs.Ends.{verdicts_in}
-use Rattle.slnf_orch.specs.Ledger.{verdicts_at, places_in}
-use Rattle.slnf_orch.specs.Passing.{SameBefore, IsToldSoFar}
-use Rattle.slnf_orch.proofs.Giving.{job_there, given_on, taken_on_is}
-use Rattle.slnf_orch.proofs.Leaving.{post_at, verdict_given, verdict_past}
+use Rattle.slnf_ledger.specs.Ledger.{verdicts_at, places_in}
+use Rattle.slnf_ledger.specs.Told.{IsToldSoFar}
+use Rattle.slnf_orch.specs.Passing.{SameBefore}
+use Rattle.slnf_ledger.proofs.Giving.{job_there, given_on}
+use Rattle.slnf_ledger.proofs.Told.{told_next, places_next}
 
 -- entries of later incarnations are none of an earlier one
 none_earlier : (base count i : ℕ) (done tail : List Entry) → i < base →
@@ -42,19 +38,6 @@ epoch_keeps s base i places era numbers es l =
     ∙ (part_of-append i es x.tail
     ∙ (ap (λ l. part_of i es ++ l) (none_earlier base (length era.actors) i es x.tail l x.grown)
     ∙ append-nil (part_of i es)))
-
-pub at_left : {X : Type 0} (xs ys : List X) (n : ℕ) → n < length xs → slice_get (xs ++ ys) n ≡ slice_get xs n
-at_left [] ys n l = absurd (omega arith)
-at_left (x ∷ xs) ys zero l = refl
-at_left (x ∷ xs) ys (suc n) l = at_left xs ys n (omega arith)
-
-pub at_right : {X : Type 0} (xs ys : List X) (n : ℕ) → length xs ≤ n → slice_get (xs ++ ys) n
-    ≡ slice_get ys (n - length xs)
-at_right [] ys n l = let q : n ≡ n - 0 = omega arith in ap (slice_get ys) q
-at_right (x ∷ xs) ys zero l = absurd (omega arith)
-at_right (x ∷ xs) ys (suc n) l =
-    let q : n - length xs ≡ suc n - suc (length xs) = omega arith in
-    at_right xs ys n (omega arith) ∙ ap (slice_get ys) q
 
 module _ {F A : Type 0} (s : Setting F A) where
   -- what is given depends on the actors' own parts
@@ -80,87 +63,20 @@ module _ {F A : Type 0} (s : Setting F A) where
         (given_same fs all (places_in ledger) lane base (base + length era.actors) era.actors
         (λ k l. sym (same k l)) (omega arith))
 
-    -- how far lanes have come
-    pub places_next : (all : List Entry) → SameBefore (base + length era.actors) fs all →
-        places_after s all base (places_in ledger) era ≡ places_in after
-    places_next all same = fun_ext (λ lane.
-        ap (λ n. places_in ledger lane + n) (taken_on_is s all (places_in ledger) lane base era.actors)
-        ∙ (sym (length-append (verdicts_at ledger lane) (given_on s all (places_in ledger) lane base era.actors))
-        ∙ ap length (sym (given_later all lane same))))
-
     before_epoch : (all : List Entry) → SameBefore (base + length era.actors) fs all → SameBefore base es all
     before_epoch all same i l =
         same i (omega arith)
         ∙ (ap (part_of i) passes.turned
         ∙ epoch_keeps s base i (places_in ledger) era (era.schedule ++ repeat passes.rounds (round era)) es l)
 
-    -- the posts of the epoch, and of later ones
-    abbrev rest_posts : List Entry → List Post
-    rest_posts all = posts_from s all (number + 1) (base + length era.actors) (places_in after) (drop (number + 1) s.eras)
-
-    posts_next : (all : List Entry) → SameBefore (base + length era.actors) fs all →
-        posts_from s all number base (places_in ledger) (drop number s.eras)
-        ≡ map (post_at number (places_in ledger)) era.actors ++ rest_posts all
-    posts_next all same =
-        let next : suc number ≡ number + 1 = omega arith in
-        ap (posts_from s all number base (places_in ledger))
-        (drop_from s.eras number era at ∙ ap (λ k. era ∷ drop k s.eras) next)
-        ∙ ap (λ places. map (post_at number (places_in ledger)) era.actors
-        ++ posts_from s all (number + 1) (base + length era.actors) places (drop (number + 1) s.eras))
-        (places_next all same)
-
-    given_next : IsToldSoFar s es number base ledger → HasLanesOnce era.actors → (all : List Entry) →
-        SameBefore (base + length era.actors) fs all → (lane n : ℕ) (v : Verdict) →
-        slice_get (verdicts_at after lane) n ≡ Some v → v ≡ verdict_of s all lane n
-    given_next told once all same lane n v there =
-        let here : slice_get (verdicts_at ledger lane
-        ++ given_on s all (places_in ledger) lane base era.actors) n ≡ Some v =
-        ap (λ l. slice_get l n) (sym (given_later all lane same)) ∙ there in
-        elim (cases_lt n (places_in ledger lane)) [
-          | inl l ↦ told.given all (before_epoch all same) lane n v
-              (sym (at_left (verdicts_at ledger lane) (given_on s all (places_in ledger) lane base era.actors) n l) ∙ here)
-          | inr l ↦
-              let q : places_in ledger lane + (n - places_in ledger lane) ≡ n = omega arith in
-              verdict_given s all number (places_in ledger) lane (n - places_in ledger lane) base v era.actors
-              (rest_posts all) once
-              (sym (at_right (verdicts_at ledger lane) (given_on s all (places_in ledger) lane base era.actors) n l)
-              ∙ here)
-              ∙ (ap (λ k. verdict_among s all lane k base
-              (map (post_at number (places_in ledger)) era.actors ++ rest_posts all)) q
-              ∙ (ap (verdict_among s all lane n base) (sym (posts_next all same))
-              ∙ sym (told.rest all (before_epoch all same) lane n l)))
-        ]
-
-    rest_next : IsToldSoFar s es number base ledger → (all : List Entry) →
-        SameBefore (base + length era.actors) fs all → (lane n : ℕ) → places_in after lane ≤ n →
-        verdict_of s all lane n ≡ verdict_among s all lane n (base + length era.actors) (rest_posts all)
-    rest_next told all same lane n l =
-        let all_given : List Verdict = given_on s all (places_in ledger) lane base era.actors in
-        let count : places_in after lane ≡ places_in ledger lane + length all_given =
-        ap length (given_later all lane same) ∙ length-append (verdicts_at ledger lane) all_given in
-        let q : places_in ledger lane + (n - places_in ledger lane) ≡ n = omega arith in
-        told.rest all (before_epoch all same) lane n (omega arith)
-        ∙ (ap (verdict_among s all lane n base) (posts_next all same)
-        ∙ (ap (λ k. verdict_among s all lane k base
-        (map (post_at number (places_in ledger)) era.actors ++ rest_posts all)) (sym q)
-        ∙ (verdict_past s all number (places_in ledger) lane (n - places_in ledger lane) base era.actors (rest_posts all)
-        (omega arith)
-        ∙ ap (λ k. verdict_among s all lane k (base + length era.actors) (rest_posts all)) q)))
+    -- how far lanes have come
+    pub places_behind : (all : List Entry) → SameBefore (base + length era.actors) fs all →
+        places_after s all base (places_in ledger) era ≡ places_in after
+    places_behind = places_next s number base era (SameBefore base es) (SameBefore (base + length era.actors) fs) ledger
+        after at before_epoch (λ all same lane. given_later all lane same)
 
     -- the ledger tells of the packets that were taken up to now
-    pub told_next : IsToldSoFar s es number base ledger → HasLanesOnce era.actors →
-        IsToldSoFar s fs (number + 1) (base + length era.actors) after
-    told_next told once = record {
-      given = given_next told once;
-      rest = rest_next told;
-    }
-
--- before the first epoch it tells nothing
-pub told_first : {F A : Type 0} (s : Setting F A) (ledger : List (List Verdict)) →
-    ((lane : ℕ) → verdicts_at ledger lane ≡ []) → IsToldSoFar s [] 0 0 ledger
-told_first s ledger none = record {
-  given = λ all same lane n v there.
-      let q : slice_get (verdicts_at ledger lane) n ≡ None = ap (λ l. slice_get l n) (none lane) in absurd (cc);
-  rest = λ all same lane n l. ap (λ places. verdict_among s all lane n 0 (posts_from s all 0 0 places s.eras))
-      (sym (fun_ext (λ lane. ap length (none lane))));
-}
+    pub told_behind : IsToldSoFar s (SameBefore base es) number base ledger → HasLanesOnce era.actors →
+        IsToldSoFar s (SameBefore (base + length era.actors) fs) (number + 1) (base + length era.actors) after
+    told_behind = told_next s number base era (SameBefore base es) (SameBefore (base + length era.actors) fs) ledger after
+        at before_epoch (λ all same lane. given_later all lane same)

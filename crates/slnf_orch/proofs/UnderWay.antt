@@ -26,14 +26,15 @@ use Rattle.slnf_flight.specs.Lanes.{packets_on}
 use Rattle.slnf_flight.specs.PlanSetting.{setting_of}
 use Rattle.slnf_crew.proofs.Laws.{lane_size}
 use Rattle.slnf_orch.specs.Actors.{turns_in, HasHistories}
-use Rattle.slnf_orch.specs.Ledger.{verdicts_at, places_in, given_from}
-use Rattle.slnf_orch.specs.Passing.{IsReady, IsUnderWay}
+use Rattle.slnf_ledger.specs.Ledger.{verdicts_at, places_in, given_from}
+use Rattle.slnf_orch.specs.Passing.{SameBefore, IsReady, IsUnderWay}
 use Rattle.slnf_orch.proofs.Fitting.{taken_fits}
-use Rattle.slnf_orch.proofs.Giving.{job_there, given_on, given_is}
+use Rattle.slnf_ledger.proofs.Giving.{job_there, given_on, given_is}
 use Rattle.slnf_orch.proofs.Making.{made_first, made_next}
 use Rattle.slnf_orch.proofs.Plain.{turns_plain}
 use Rattle.slnf_orch.proofs.SettingOut.{stage_of}
-use Rattle.slnf_orch.proofs.Told.{told_first, told_next, places_next}
+use Rattle.slnf_ledger.proofs.Told.{told_first}
+use Rattle.slnf_orch.proofs.Told.{told_behind, places_behind}
 
 -- what holds of each entry holds of those that a rule adds
 each_of_grown : (P : Entry → Type 0) (es tail : List Entry) → Grown (λ es e. P e) es tail → AllByRecursion P tail
@@ -141,7 +142,7 @@ module _ (plan : Plan) (lanes : List Lane) (number base : ℕ) (epoch : Epoch) (
       (given_is s fs (places_in ledger) lane base 0 epoch.instances epoch.sweep
       ∙ ap (λ n. given_on s fs (places_in ledger) lane n era.actors) first) in
       let come : places_after s fs base (places_in ledger) era ≡ places_in after =
-      places_next s number base era h.list fs ledger after there e.passes given fs (λ i l. refl) in
+      places_behind s number base era h.list fs ledger after there e.passes given fs (λ i l. refl) in
       record {
         list = fs;
         base_is = ap (λ b. b + length era.actors) h.base_is
@@ -149,7 +150,7 @@ module _ (plan : Plan) (lanes : List Lane) (number base : ℕ) (epoch : Epoch) (
         ready = ready_next s number base (places_in ledger) era h.list
             (era.schedule ++ repeat e.passes.rounds (round era)) fs next e.passes.turned h.ready.before e.kept;
         made = made_next s number base (places_in ledger) (places_in after) era h.list fs there e.passes come h.made;
-        told = told_next s number base era h.list fs ledger after there e.passes given h.told once;
+        told = told_behind s number base era h.list fs ledger after there e.passes given h.told once;
         fits = λ lane.
             let fit : places_in ledger lane ≤ length (packets_on lanes lane) = h.fits lane in
             let size : slice_index s.lanes lane ≡ length (packets_on lanes lane) = lane_size lanes lane in
@@ -175,7 +176,7 @@ under_way_first plan lanes histories ledger count some empty lanes_are none = re
     before = tt;
   };
   made = made_first (setting_of plan lanes) (places_in ledger) (λ lane. ap length (none lane));
-  told = told_first (setting_of plan lanes) ledger none;
+  told = told_first (setting_of plan lanes) (SameBefore 0 []) ledger none;
   fits = λ lane. let none_yet : places_in ledger lane ≡ 0 = ap length (none lane) in omega arith;
   lanes_are = lanes_are;
 }

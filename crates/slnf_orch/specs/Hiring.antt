@@ -1,8 +1,10 @@
 -- The actors that are hired for an epoch: where each begins, and how it stands before its first access.
-use Rattle.std.specs.Prelude.{◌≡◌, ℕ, ◌+◌, Some, None, List, [], slice_get}
+use Rattle.std.specs.Prelude.{◌≡◌, ℕ, ◌+◌, Some, List, [], slice_get}
 use Rattle.slnf_plan.specs.declared.plan.Epoch.{Epoch}
 use Rattle.slnf_plan.specs.declared.plan.InstancePlan.{InstancePlan}
 use Rattle.slnf_plan.specs.declared.plan.Plan.{Plan}
+use Rattle.slnf_access.specs.declared.requests.Entry.{Entry}
+use Rattle.slnf_run.specs.Jobs.{Job}
 use Rattle.slnf_run.specs.Setting.{Actor}
 use Rattle.slnf_instance.specs.Items.{Workload}
 use Rattle.slnf_instance.specs.Errands.{job_in}
@@ -14,9 +16,11 @@ use Rattle.slnf_flight.specs.Actors.{era_of_epoch}
 use Rattle.slnf_crew.specs.declared.items.ActorItems.{ActorItems}
 use Rattle.slnf_crew.specs.Errands.{items_work, IsWorkOn, errand_of}
 
--- how far the lane has come of the actor with this number, where the instances are these; a sweep's has none
-abbrev pub place_at : (ℕ → ℕ) → List InstancePlan → ℕ → ℕ
-place_at places instances number = elim (slice_get instances number) [ None ↦ 0 | Some i ↦ places i.lane ]
+-- the actors of these instances stand so, by their jobs and their own entries
+abbrev pub DoStand : {G F : Type 0} → (G → Workload F) → (ℕ → InstancePlan → Job F) → (ℕ → List Entry)
+    → List (Acting G F) → List InstancePlan → Type 0
+DoStand {G} {F} work jobs owns crew instances = (k : ℕ) (actor : Acting G F) (i : InstancePlan) →
+    slice_get crew k ≡ Some actor → slice_get instances k ≡ Some i → StandsBy work (jobs k i) (owns k) actor
 
 module _ (plan : Plan) (function : AnyFunction) (lanes : List Lane) (places : ℕ → ℕ) (base : ℕ) where
   -- The actor with this number of an epoch stands before its first access, with the job that the plan has for it.

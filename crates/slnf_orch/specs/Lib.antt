@@ -1,4 +1,3 @@
 pub mod Actors
-pub mod Ledger
 pub mod Hiring
 pub mod Passing

@@ -1,18 +1,18 @@
 -- Epochs that pass: where a run of a plan stands between two of them.
-use Rattle.std.specs.Prelude.{◌≡◌, ℕ, ◌<◌, ◌≤◌, Some, List, [], length, drop, slice_get}
+use Rattle.std.specs.Prelude.{◌≡◌, ℕ, ◌<◌, ◌≤◌, List, [], length, drop}
 use Rattle.std.specs.List.{AllByRecursion}
 use Rattle.slnf_base.specs.declared.packets.Verdict.{Verdict}
 use Rattle.slnf_access.specs.declared.requests.Entry.{Entry}
 use Rattle.slnf_plan.specs.declared.plan.Plan.{Plan}
 use Rattle.slnf_run.specs.Setting.{Setting, base_of, era_of}
-use Rattle.slnf_run.specs.Parts.{part_of, posts_from}
+use Rattle.slnf_run.specs.Parts.{part_of}
 use Rattle.slnf_run.specs.Scheduled.{usual_way, Makes}
-use Rattle.slnf_run.specs.Verdicts.{verdict_of, verdict_among}
 use Rattle.slnf_run.specs.SoFar.{HavePassed}
 use Rattle.slnf_shards.specs.Parts.{ArePartsOf}
 use Rattle.slnf_flight.specs.declared.lanes.Lane.{Lane}
 use Rattle.slnf_flight.specs.PlanSetting.{setting_of}
-use Rattle.slnf_orch.specs.Ledger.{verdicts_at, places_in, IsFitting}
+use Rattle.slnf_ledger.specs.Ledger.{places_in, IsFitting}
+use Rattle.slnf_ledger.specs.Told.{IsToldSoFar}
 
 -- the lists have the same parts of all incarnations before this
 abbrev pub SameBefore : ℕ → List Entry → List Entry → Type 0
@@ -36,16 +36,6 @@ pub record IsMadeSoFar {F A : Type 0} (s : Setting F A) (m : List Entry) (number
   pub makes : (all : List Entry) → Makes s (usual_way s.eras) base places (drop number s.eras) m all →
       Makes s (usual_way s.eras) 0 (λ lane. 0) s.eras [] all
 
--- The ledger has the verdicts of the packets that were taken so far, as they are in each list that goes on from these
--- accesses; those of other packets are said by the posts of later epochs.
-pub record IsToldSoFar {F A : Type 0} (s : Setting F A) (m : List Entry) (number base : ℕ)
-    (ledger : List (List Verdict)) : Type 0 where
-  pub given : (all : List Entry) → SameBefore base m all → (lane n : ℕ) (v : Verdict) →
-      slice_get (verdicts_at ledger lane) n ≡ Some v → v ≡ verdict_of s all lane n
-  pub rest : (all : List Entry) → SameBefore base m all → (lane n : ℕ) → places_in ledger lane ≤ n →
-      verdict_of s all lane n
-      ≡ verdict_among s all lane n base (posts_from s all number base (places_in ledger) (drop number s.eras))
-
 -- A run of the plan stands before the epoch with this number, whose first incarnation is this: its accesses are in the
 -- shards, and the verdicts so far in the ledger, which has a place for each lane that a plan may name.
 pub record IsUnderWay (plan : Plan) (lanes : List Lane) (number base : ℕ) (histories : List (List Entry))
@@ -54,7 +44,7 @@ pub record IsUnderWay (plan : Plan) (lanes : List Lane) (number base : ℕ) (his
   pub base_is : base ≡ base_of (setting_of plan lanes).eras number
   pub ready : IsReady (setting_of plan lanes) list number base histories
   pub made : IsMadeSoFar (setting_of plan lanes) list number base (places_in ledger)
-  pub told : IsToldSoFar (setting_of plan lanes) list number base ledger
+  pub told : IsToldSoFar (setting_of plan lanes) (SameBefore base list) number base ledger
   pub fits : IsFitting lanes ledger
   pub lanes_are : length ledger ≡ 32
 

@@ -4,25 +4,15 @@ ghost use Rattle.slnf_flight.specs.declared.functions.AnyFunction.{AnyFunction};
 ghost use Rattle.slnf_flight.specs.declared.lanes.Lane.{Lane};
 ghost use Rattle.slnf_crew.specs.declared.items.ActorItems.{ActorItems};
 ghost use Rattle.slnf_crew.specs.Errands.{items_work, AreItemsFor};
-ghost use Rattle.slnf_orch.specs.Hiring.{place_at, AreHired};
-ghost use Rattle.slnf_orch.specs.Ledger.{places_in};
+ghost use Rattle.slnf_orch.specs.Hiring.{AreHired};
+ghost use Rattle.slnf_ledger.specs.Ledger.{places_in};
 
-use crate::ledger::Ledger;
-use slnf_base::{NoMemory, Verdict};
+use slnf_base::NoMemory;
 use slnf_crew::{ActorItems, errand_for};
 use slnf_instance::{Instance, Items};
+use slnf_ledger::{Ledger, add_work, place_of};
 use slnf_plan::{Epoch, InstancePlan, Plan};
 use std::alloc::Global;
-
-/// How far the lane of the actor with this number has come. A sweep, which stands behind the instances, has no lane.
-fn place_of(instances: &[InstancePlan], ledger: &Ledger, number: usize) -> usize
-    ensures { result ≡ place_at (places_in ledger.now) instances.now number }
-{
-    match instances.get(number) {
-        None => 0,
-        Some(instance) => ledger.place(instance.lane),
-    }
-}
 
 /// An actor for the items of each actor of an epoch.
 pub(crate) fn crew_of<'a, 'b>(
@@ -54,26 +44,8 @@ ghost use Rattle.std.specs.Prelude.{◌++◌, List, OnOk};
 ghost use Rattle.slnf_access.specs.declared.requests.Entry.{Entry};
 ghost use Rattle.slnf_run.specs.Jobs.{Job};
 ghost use Rattle.slnf_orch.specs.Actors.{AreIdle};
-ghost use Rattle.slnf_orch.specs.Ledger.{DoStand, added_by, given_from, verdicts_at};
-
-/// Adds what the actor with this number of an epoch did to its lane's verdicts. A sweep, which stands behind the
-/// instances, has no lane.
-fn add_work(
-    ledger: &mut Ledger,
-    instances: &[InstancePlan],
-    number: usize,
-    verdicts: &[Verdict],
-) -> Result<(), NoMemory>
-    requires { (i : InstancePlan) → slice_get instances.now number ≡ Some i → i.lane < length ledger.old }
-    ensures count { OnOk result (length ledger.new ≡ length ledger.old) }
-    ensures added { OnOk result ((lane : ℕ) → verdicts_at ledger.new lane
-        ≡ verdicts_at ledger.old lane ++ added_by (slice_get instances.now number) verdicts.now lane) }
-{
-    if number < instances.len() {
-        ledger.add(instances[number].lane, verdicts)?;
-    }
-    Ok(())
-}
+ghost use Rattle.slnf_ledger.specs.Ledger.{given_from, verdicts_at};
+ghost use Rattle.slnf_orch.specs.Hiring.{DoStand};
 
 /// Adds what each actor of an epoch did to its lane's verdicts.
 pub(crate) fn hand_over<T: Items>(

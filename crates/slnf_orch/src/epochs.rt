@@ -3,11 +3,11 @@ ghost use Rattle.slnf_flight.specs.Lanes.{packet_count};
 ghost use Rattle.slnf_orch.specs.Passing.{IsUnderWay};
 
 use crate::crews::{crew_of, hand_over};
-use crate::ledger::Ledger;
 use crate::turns::{rounds, turns_by};
 use slnf_base::NoMemory;
 use slnf_crew::{actors_have_jobs, epoch_of, items_of};
 use slnf_flight::{AnyFunction, Lane};
+use slnf_ledger::Ledger;
 use slnf_plan::Plan;
 use slnf_setting::{know_types, plan_has_one_box, plan_passes_few};
 use slnf_shards::Shards;

@@ -3,7 +3,6 @@
 
 mod crews;
 mod epochs;
-mod ledger;
 mod plans;
 mod turns;
 

@@ -2,7 +2,7 @@ ghost use Rattle.std.specs.Prelude.{◌≡◌, ◌^◌, ◌<◌, ◌≤◌, leng
 ghost use Rattle.slnf_run.specs.Run.{IsRun};
 ghost use Rattle.slnf_run.specs.Scheduled.{IsScheduled, usual_way};
 ghost use Rattle.slnf_run.specs.Stamps.{HasClockStamps};
-ghost use Rattle.slnf_run.specs.Verdicts.{verdicts_of, is_left, left_of, left_in};
+ghost use Rattle.slnf_run.specs.Verdicts.{verdicts_of, left_in};
 ghost use Rattle.slnf_flight.specs.Actors.{eras_of};
 ghost use Rattle.slnf_flight.specs.Lanes.{packet_count};
 ghost use Rattle.slnf_flight.specs.PlanSetting.{setting_of};
@@ -14,9 +14,9 @@ ghost use Rattle.slnf_setting.specs.Runs.{RunsWell};
 ghost use Rattle.slnf_orch.specs.Passing.{HaveAllPassed};
 
 use crate::epochs::run_epoch;
-use crate::ledger::Ledger;
-use slnf_base::{NoMemory, Row, Verdict};
+use slnf_base::NoMemory;
 use slnf_flight::{Lane, Outcome};
+use slnf_ledger::{Ledger, left_in};
 use slnf_plan::Plan;
 use slnf_setting::{know_types, plan_runs_so};
 use slnf_shards::Shards;
@@ -82,42 +82,4 @@ fn pass_epochs(
         base = run_epoch(alloc, plan, lanes, number, base, &mut shards, &mut ledger)?;
     }
     Ok((shards, ledger))
-}
-
-/// How many packets of all lanes are left.
-fn left_in(lanes: &[Row<Verdict>]) -> u64
-    requires { left_in lanes.now < 2 ^ 64 }
-    ensures { result ≡ left_in lanes.now }
-{
-    let mut count = 0;
-    for verdicts in lanes {
-        count += left_of(verdicts.as_slice()) as u64;
-    }
-    count
-}
-
-/// How many packets of a lane are left.
-fn left_of(verdicts: &[Verdict]) -> usize
-    ensures is { result ≡ left_of verdicts.now }
-    ensures most { result ≤ length verdicts.now }
-{
-    let mut count = 0;
-    for verdict in verdicts {
-        if is_left(verdict) {
-            count += 1;
-        }
-    }
-    count
-}
-
-/// Whether the packet is left.
-fn is_left(verdict: &Verdict) -> bool
-    ensures { result ≡ is_left verdict.now }
-{
-    match verdict {
-        Verdict::Emit(_) => false,
-        Verdict::Dropped(_) => false,
-        Verdict::Lost => false,
-        Verdict::Left => true,
-    }
 }

@@ -1,5 +1,5 @@
 -- A plan's run on the shared store ends: its merged histories are a run with all that the laws of plans tell of runs.
-use Rattle.std.proofs.Common.{◌≡◌, ℕ, ◌+◌, ◌^◌, ◌<◌, ◌≤◌, List, [], ◌∷◌, length, refl, sym, ap, ◌∙◌, subst, arith}
+use Rattle.std.proofs.Common.{◌≡◌, ℕ, ◌+◌, ◌^◌, ◌<◌, ◌≤◌, List, [], ◌∷◌, length, refl, ap, arith}
 use Rattle.std.specs.Prelude.{IsTrue}
 use Rattle.std.specs.List.Sorted.{IsPermutation}
 use Rattle.std.proofs.lemmas.List.{length-map}
@@ -13,16 +13,14 @@ use Rattle.slnf_plan.specs.declared.plan.FunctionPlan.TheVariants.{Nat, Firewall
 use Rattle.slnf_plan.specs.declared.plan.Plan.{Plan}
 use Rattle.slnf_turns.specs.declared.views.View.{View}
 use Rattle.slnf_store.specs.Closes.{list_of, IsClosed}
-use Rattle.slnf_run.specs.Setting.{Setting, total_of}
+use Rattle.slnf_run.specs.Setting.{total_of}
 use Rattle.slnf_run.specs.Parts.{part_of}
 use Rattle.slnf_run.specs.Run.{IsRun}
 use Rattle.slnf_run.specs.Stamps.{HasClockStamps}
 use Rattle.slnf_run.proofs.Offering.{IsOffering, offering_of_run}
 use Rattle.slnf_run.proofs.Runs.{paths_of_run}
-use Rattle.slnf_flight.specs.declared.flights.AnyFlight.{AnyFlight}
 use Rattle.slnf_flight.specs.declared.lanes.Lane.{Lane}
 use Rattle.slnf_flight.specs.Actors.{era_of_epoch, eras_of}
-use Rattle.slnf_flight.specs.Flights.{Arrival}
 use Rattle.slnf_flight.specs.Lanes.{lane_sizes, packet_count}
 use Rattle.slnf_flight.specs.PlanSetting.{setting_of}
 use Rattle.slnf_setting.specs.Fits.{has_types}
@@ -53,7 +51,7 @@ few_of_offering plan lanes m types few legal rules =
 module _ (plan : Plan) (lanes : List Lane) (types : IsTrue (has_types plan.function))
     (few : packet_count lanes ≤ 1048576) (root : View) (hs : List (List Entry)) (merged : List Entry)
     (closed : IsClosed plan.shards root hs) (same : IsPermutation (all_of hs) merged) (order : InOrder merged) where
-  own : (i : ℕ) → part_of i merged ≡ list_of i root
+  pub own : (i : ℕ) → part_of i merged ≡ list_of i root
   own = (closed.merges merged same order).1
 
   well_by : (function : FunctionPlan) → plan.function ≡ function → IsRun (setting_of plan lanes) merged →

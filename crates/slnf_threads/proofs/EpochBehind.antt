@@ -1,8 +1,9 @@
 -- What is known behind an epoch on the shared store: it has passed, or stamps are said to be spent.
-use Rattle.std.proofs.Common.{◌≡◌, ℕ, ◌+◌, ◌-◌, ◌*◌, ◌^◌, ◌<◌, ◌≤◌, Option, Some, None, Ok, List, [], ◌++◌, length, map, replicate, slice_get, slice_index, option_map, MatchResult, refl, sym, ap, ap₂, ◌∙◌, subst, arith, eq-eqb}
+use Rattle.std.proofs.Common.{◌≡◌, ℕ, ◌+◌, ◌-◌, ◌*◌, ◌<◌, ◌≤◌, Option, Some, None, Ok, List, [], ◌++◌, length, map, replicate, slice_get, slice_index, option_map, MatchResult, refl, sym, ap, ap₂, ◌∙◌, subst, arith, eq-eqb}
 use Rattle.std.specs.List.{range_with_len}
 use Rattle.std.proofs.lemmas.List.{length-append, length-map, length-replicate}
 use Rattle.std.proofs.lemmas.Option.{slice_get-map, slice_get_within}
+use Rattle.slnf_base.specs.declared.packets.Verdict.{Verdict}
 use Rattle.slnf_access.specs.declared.requests.Entry.{Entry}
 use Rattle.slnf_plan.specs.declared.plan.Epoch.{Epoch}
 use Rattle.slnf_plan.specs.declared.plan.InstancePlan.{InstancePlan}
@@ -11,6 +12,7 @@ use Rattle.slnf_turns.specs.declared.views.View.{View}
 use Rattle.slnf_turns.specs.Passes.{AllJoined, IsRoot}
 use Rattle.slnf_turns.specs.Views.{joined_of}
 use Rattle.slnf_store.specs.Passes.{PassState, entries_of, own_entries}
+use Rattle.slnf_store.specs.Closes.{list_of}
 use Rattle.slnf_store.specs.Stores.{IsOf, shards_of}
 use Rattle.slnf_run.specs.Setting.{Actor, Era, Setting}
 use Rattle.slnf_run.specs.Jobs.{Job, by_rounds, job_of, wanted_in}
@@ -21,7 +23,7 @@ use Rattle.slnf_instance.specs.Ends.{verdicts_in}
 use Rattle.slnf_instance.specs.Errands.{job_in}
 use Rattle.slnf_flight.specs.Actors.{instance_actor, era_of_epoch}
 use Rattle.slnf_flight.specs.Flights.{Arrival}
-use Rattle.slnf_flight.specs.Lanes.{packet_count, packets_on}
+use Rattle.slnf_flight.specs.Lanes.{packets_on}
 use Rattle.slnf_flight.specs.PlanSetting.{setting_of}
 use Rattle.slnf_flight.specs.declared.flights.AnyFlight.{AnyFlight}
 use Rattle.slnf_flight.specs.declared.lanes.Lane.{Lane}
@@ -31,18 +33,21 @@ use Rattle.slnf_crew.specs.Errands.{items_work}
 use Rattle.slnf_threads.specs.declared.plans.Run.{Run}
 use Rattle.slnf_threads.specs.declared.reports.Desk.{Desk}
 use Rattle.slnf_threads.specs.declared.reports.Report.{Report}
-use Rattle.slnf_threads.specs.Crews.{place_in, IsSent, SomeSpent}
-use Rattle.slnf_threads.specs.Passing.{joined_number, after_splits, after_joins, clock_after, root_with, HavePassed, AreAtWork, IsClockOf, HasLateStamp}
+use Rattle.slnf_ledger.specs.Ledger.{verdicts_at, places_in, IsFitting, DidSo, given_from}
+use Rattle.slnf_ledger.specs.Told.{IsToldSoFar}
+use Rattle.slnf_ledger.proofs.Giving.{job_there, given_on, given_is, taken_on_is}
+use Rattle.slnf_ledger.proofs.Told.{told_next}
+use Rattle.slnf_threads.specs.Crews.{IsSent, SomeSpent}
+use Rattle.slnf_threads.specs.Passing.{joined_number, after_splits, after_joins, clock_after, root_with, AgreesBefore, HavePassed, AreAtWork, IsClockOf, HasLateStamp}
 use Rattle.slnf_threads.specs.Reports.{job_by, IsReport, IsRefused, IsWorkOf}
-use Rattle.slnf_threads.specs.Taken.{taken_by}
 use Rattle.slnf_threads.specs.UnderWay.{IsGathered, IsUnderWay, IsStuck}
 use Rattle.slnf_threads.specs.Worked.{IsWorked, HasWorked}
-use Rattle.slnf_threads.proofs.EpochWork.{instance_at, instances_most, era_there, lane_size, lane_most, each_at, pair_at, known_by, clock_by, outcome_by, count_of, within_from, works_from, HasReports}
-use Rattle.slnf_threads.proofs.Fitting.{AreApart, taken_within}
+use Rattle.slnf_threads.proofs.EpochWork.{instance_at, instances_most, era_there, lane_size, each_at, pair_at, known_by, clock_by, outcome_by, HasReports}
+use Rattle.slnf_threads.proofs.Fitting.{AreApart, took_by, given_within}
 use Rattle.slnf_threads.proofs.Gathering.{clock_next, late_next}
 use Rattle.slnf_threads.proofs.Pairs.{count_pairs}
-use Rattle.slnf_threads.proofs.Passing.{splits_root, joins_root, passed_next, work_next}
-use Rattle.slnf_threads.proofs.Reporting.{numbers_in_row, taken_is}
+use Rattle.slnf_threads.proofs.Passing.{splits_root, joins_root, list_new, agrees_old, parts_here, passed_next, work_next}
+use Rattle.slnf_threads.proofs.Reporting.{numbers_in_row}
 use Rattle.slnf_threads.proofs.Rooms.{took_most}
 use Rattle.slnf_threads.proofs.Rules.{some_at}
 
@@ -53,7 +58,7 @@ module _ (plan : Plan) (lanes : List Lane) (number : ℕ) (run : Run) (epoch : E
   s = setting_of plan lanes
 
   abbrev places : ℕ → ℕ
-  places = place_in run.places.items
+  places = places_in run.ledger
 
   abbrev era : Era
   era = era_of_epoch epoch
@@ -77,8 +82,8 @@ module _ (plan : Plan) (lanes : List Lane) (number : ℕ) (run : Run) (epoch : E
   job_is : (k : ℕ) (actor : Actor) (d : Desk ActorItems AnyFlight) → slice_get desks k ≡ Some d →
       slice_get era.actors k ≡ Some actor → job_by items_work d.instance ≡ job_at k actor
   job_is k actor d d_at actor_at =
-      let is_sent : IsSent plan epoch run.places.items items k d.instance =
-      each_at (λ k (d : Desk ActorItems AnyFlight). IsSent plan epoch run.places.items items k d.instance) desks k d
+      let is_sent : IsSent plan epoch (places_in run.ledger) items k d.instance =
+      each_at (λ k (d : Desk ActorItems AnyFlight). IsSent plan epoch (places_in run.ledger) items k d.instance) desks k d
       e.sent d_at in
       let l : k < length era.actors = slice_get_within era.actors k actor actor_at in
       let x : (item : ActorItems) × (slice_get items k ≡ Some item) =
@@ -161,9 +166,9 @@ module _ (plan : Plan) (lanes : List Lane) (number : ℕ) (run : Run) (epoch : E
     }
 
     pub stuck : SomeSpent (map outcome_by reports) →
-        IsStuck plan lanes (record { store = run.store; root = back; places = run.places; base = run.base })
+        IsStuck plan lanes (record { store = run.store; root = back; ledger = run.ledger; base = run.base })
     stuck spent = record {
-      gathered = gathered (record { store = run.store; root = back; places = run.places; base = run.base }) refl refl;
+      gathered = gathered (record { store = run.store; root = back; ledger = run.ledger; base = run.base }) refl refl;
       upto = run.base + length era.actors;
       at_work = subst (AreAtWork s (run.base + length era.actors)) known_is
           (work_next s number run.base places root era h.passed there vs count numbers working);
@@ -206,26 +211,28 @@ module _ (plan : Plan) (lanes : List Lane) (number : ℕ) (run : Run) (epoch : E
         )
 
     -- an instance's verdicts are its entries'
-    verdicts_at : (k : ℕ) (i : InstancePlan) (w : Work) → slice_get epoch.instances k ≡ Some i →
+    told_at : (k : ℕ) (i : InstancePlan) (w : Work) → slice_get epoch.instances k ≡ Some i →
         slice_get works k ≡ Some w → (r : Report) × (slice_get reports k ≡ Some r)
         × (w.verdicts.items ≡ verdicts_in (job_at k (instance_actor i)) (own_entries r.pass))
-    verdicts_at k i w i_at w_at =
+    told_at k i w i_at w_at =
         let outcome : slice_get (map outcome_by reports) k ≡ Some (Ok w) =
         sym (ap (λ l. slice_get l k) all) ∙ (slice_get-map Ok works k ∙ ap (option_map Ok) w_at) in
         let r = slice_get_of_map outcome_by reports k (Ok w) outcome in
         let done = work_at k (instance_actor i) r.0 w r.1 (instance_at epoch k i i_at) r.2 in
         (r.0, r.1, (done.1).verdicts)
 
-    took : (k : ℕ) (i : InstancePlan) (w : Work) → slice_get epoch.instances k ≡ Some i → slice_get works k ≡ Some w →
-        count_of w ≤ length (packets_on lanes i.lane) - places i.lane
-    took k i w i_at w_at =
-        let v = verdicts_at k i w i_at w_at in
-        let own : List Entry = own_entries (v.0).pass in
-        let most : length (verdicts_in (job_at k (instance_actor i)) own) ≤ slice_index s.lanes i.lane - places i.lane =
-        took_most s own i.lane (run.base + k) (places i.lane) (instance_actor i) (eq-eqb i.lane i.lane refl) in
-        let size : slice_index s.lanes i.lane ≡ length (packets_on lanes i.lane) = lane_size lanes i.lane in
-        let same : count_of w ≡ length (verdicts_in (job_at k (instance_actor i)) own) = ap length v.2 in
-        omega (arith, most, size, same)
+    abbrev jobs : ℕ → InstancePlan → Job AnyFlight
+    jobs k i = job_there s places (run.base + k) (instance_actor i)
+
+    -- they did what lists tell that are their passes'
+    abbrev ArePassLists : (ℕ → List Entry) → Type 0
+    ArePassLists owns = (k : ℕ) (v : View) → slice_get vs k ≡ Some v → owns k ≡ entries_of v.own
+
+    did : (owns : ℕ → List Entry) → ArePassLists owns → DidSo jobs owns works epoch.instances
+    did owns parts k w i w_at i_at =
+        let v = told_at k i w i_at w_at in
+        v.2 ∙ ap (verdicts_in (job_at k (instance_actor i)))
+        (sym (parts k (known_by v.0) (slice_get-map known_by reports k ∙ ap (option_map known_by) v.1)))
 
     apart : AreApart epoch.instances
     apart a b i j i_at j_at same =
@@ -233,50 +240,73 @@ module _ (plan : Plan) (lanes : List Lane) (number : ℕ) (run : Run) (epoch : E
         (instance_at epoch a i i_at) (instance_at epoch b j j_at) (eq-eqb i.lane i.lane refl)
         (eq-eqb j.lane i.lane (sym same))
 
-    -- no lane comes farther than its packets
-    pub taken_fits : (lane : ℕ) →
-        places lane + taken_by lane epoch.instances (map count_of works) ≤ length (packets_on lanes lane)
-    taken_fits lane =
-        let room : ℕ → ℕ = λ l. length (packets_on lanes l) - places l in
-        let within : taken_by lane epoch.instances (map count_of works)
-        ≤ length (packets_on lanes lane) - places lane =
-        taken_within lane room epoch.instances (map count_of works) apart
-        (within_from room epoch.instances works took) in
-        let was : places lane ≤ length (packets_on lanes lane) = h.fits lane in
-        omega (arith, within, was)
+    module _ (after : List (List Verdict)) (added : (jobs : ℕ → InstancePlan → Job AnyFlight) (owns : ℕ → List Entry) →
+        DidSo jobs owns works epoch.instances → (lane : ℕ) → verdicts_at after lane
+        ≡ verdicts_at run.ledger lane ++ given_from jobs owns 0 epoch.instances lane) where
+      -- no lane comes farther than its packets
+      given_fits : IsFitting lanes after
+      given_fits lane =
+          let owns : ℕ → List Entry = λ k. list_of (run.base + k) behind in
+          let room : ℕ → ℕ = λ l. length (packets_on lanes l) - places l in
+          let mine : List Verdict = given_from jobs owns 0 epoch.instances lane in
+          let size : places_in after lane ≡ places lane + length mine =
+          ap length (added jobs owns (did owns
+          (list_new s number run.base places root era h.passed there vs count numbers)) lane)
+          ∙ length-append (verdicts_at run.ledger lane) mine in
+          let most : length mine ≤ length (packets_on lanes lane) - places lane =
+          given_within jobs owns lane room 0 epoch.instances apart (λ k i i_at.
+          let q : k ≡ 0 + k = omega arith in
+          let here : slice_index s.lanes i.lane ≡ length (packets_on lanes i.lane) = lane_size lanes i.lane in
+          let took : took_by jobs owns lane k i ≤ slice_index s.lanes i.lane - places i.lane =
+          took_most s (owns k) i.lane (run.base + k) (places i.lane) (instance_actor i) (eq-eqb i.lane i.lane refl) in
+          subst (λ n. took_by jobs owns lane n i ≤ room i.lane) q (omega (arith, here, took))) in
+          let was : places lane ≤ length (packets_on lanes lane) = h.fits lane in
+          omega (arith, size, most, was)
 
-    pub taken_few : packet_count lanes ≤ 1048576 → (lane : ℕ) →
-        places lane + taken_by lane epoch.instances (map count_of works) < 2 ^ 64
-    taken_few few lane =
-        let most : length (packets_on lanes lane) ≤ packet_count lanes = lane_most lanes lane in
-        omega (arith, taken_fits lane, most, few)
+      -- what lists give whose parts are the passes'
+      given_of : (es : List Entry) → ArePassLists (λ k. part_of (run.base + k) es) → (lane : ℕ) →
+          verdicts_at after lane ≡ verdicts_at run.ledger lane ++ given_on s es places lane run.base era.actors
+      given_of es parts lane =
+          let first : run.base + 0 ≡ run.base = omega arith in
+          added jobs (λ k. part_of (run.base + k) es) (did (λ k. part_of (run.base + k) es) parts) lane
+          ∙ ap (λ l. verdicts_at run.ledger lane ++ l)
+          (given_is s es places lane run.base 0 epoch.instances epoch.sweep
+          ∙ ap (λ n. given_on s es places lane n era.actors) first)
 
-    moved : (to : ℕ → ℕ) → ((lane : ℕ) → to lane ≡ places lane + taken_by lane epoch.instances (map count_of works)) →
-        (es : List Entry) → ((k : ℕ) (v : View) → slice_get vs k ≡ Some v →
-        part_of (run.base + k) es ≡ entries_of v.own) → (lane : ℕ) → to lane ≡ places_after s es run.base places era lane
-    moved to taken es parts lane =
-        taken lane
-        ∙ ap (λ n. places lane + n)
-        (taken_is s es places lane run.base epoch.instances epoch.sweep works
-        (works_from s es places lane run.base epoch.instances works works_most (λ k i w i_at w_at.
-        let v = verdicts_at k i w i_at w_at in
-        v.2 ∙ ap (verdicts_in (job_at k (instance_actor i)))
-        (sym (parts k (known_by v.0) (slice_get-map known_by reports k ∙ ap (option_map known_by) v.1))))))
+      moved : (es : List Entry) → ArePassLists (λ k. part_of (run.base + k) es) → (lane : ℕ) →
+          places_in after lane ≡ places_after s es run.base places era lane
+      moved es parts lane =
+          ap length (given_of es parts lane)
+          ∙ (length-append (verdicts_at run.ledger lane) (given_on s es places lane run.base era.actors)
+          ∙ ap (λ n. places lane + n) (sym (taken_on_is s es places lane run.base era.actors)))
 
-    -- the epoch has passed
-    pub goes_on : (next : Run) → IsBack next.root → next.store ≡ run.store →
-        ((lane : ℕ) → place_in next.places.items lane
-        ≡ places lane + taken_by lane epoch.instances (map count_of works)) →
-        length next.places.items ≡ length run.places.items → next.base ≡ run.base + length era.actors →
-        length era.actors ≤ 33 → IsUnderWay plan lanes (number + 1) next
-    goes_on next is store_is taken lanes_are base_is few = record {
-      gathered = gathered next.root is next store_is refl;
-      passed = subst (λ b. HavePassed s (number + 1) b (place_in next.places.items) next.root.known) (sym base_is)
-          (subst (HavePassed s (number + 1) (run.base + length era.actors) (place_in next.places.items))
-          (known_is next.root is)
-          (passed_next s number run.base places root era h.passed there vs count numbers (place_in next.places.items)
-          worked (moved (place_in next.places.items) taken)));
-      fits = λ lane. subst (λ n. n ≤ length (packets_on lanes lane)) (sym (taken lane)) (taken_fits lane);
-      lanes_are = lanes_are ∙ h.lanes_are;
-      base = let was : run.base ≤ 33 * number = h.base in omega (arith, was, base_is, few);
-    }
+      -- the ledger tells of the packets that were taken up to now
+      given_told : IsToldSoFar s (AgreesBefore (run.base + length era.actors) behind) (number + 1)
+          (run.base + length era.actors) after
+      given_told = told_next s number run.base era (AgreesBefore run.base root)
+          (AgreesBefore (run.base + length era.actors) behind) run.ledger after there
+          (agrees_old s number run.base places root era h.passed there vs count numbers)
+          (λ es agrees. given_of es
+          (parts_here s number run.base places root era h.passed there vs count numbers es agrees))
+          h.told (lanes_once plan.epochs plan.lanes_apart number era there)
+
+      -- the epoch has passed
+      pub goes_on : (next : Run) → IsBack next.root → next.store ≡ run.store → next.ledger ≡ after →
+          length after ≡ length run.ledger → next.base ≡ run.base + length era.actors →
+          length era.actors ≤ 33 → IsUnderWay plan lanes (number + 1) next
+      goes_on next is store_is ledger_is lanes_are base_is few = record {
+        gathered = gathered next.root is next store_is refl;
+        passed = subst (λ l. HavePassed s (number + 1) next.base (places_in l) next.root.known) (sym ledger_is)
+            (subst (λ b. HavePassed s (number + 1) b (places_in after) next.root.known) (sym base_is)
+            (subst (HavePassed s (number + 1) (run.base + length era.actors) (places_in after))
+            (known_is next.root is)
+            (passed_next s number run.base places root era h.passed there vs count numbers (places_in after)
+            worked moved)));
+        told = subst (IsToldSoFar s (AgreesBefore next.base next.root.known) (number + 1) next.base) (sym ledger_is)
+            (subst (λ b. IsToldSoFar s (AgreesBefore b next.root.known) (number + 1) b after) (sym base_is)
+            (subst (λ v. IsToldSoFar s (AgreesBefore (run.base + length era.actors) v) (number + 1)
+            (run.base + length era.actors) after) (known_is next.root is) given_told));
+        fits = subst (IsFitting lanes) (sym ledger_is) given_fits;
+        lanes_are = ap length ledger_is ∙ (lanes_are ∙ h.lanes_are);
+        base = let was : run.base ≤ 33 * number = h.base in omega (arith, was, base_is, few);
+      }

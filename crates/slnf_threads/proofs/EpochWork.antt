@@ -2,19 +2,17 @@
 use Rattle.std.proofs.Common.{◌≡◌, ℕ, zero, suc, ◌+◌, ◌≤◌, Some, Result, List, [], ◌∷◌, length, map, slice_get, slice_index, option_map, refl, sym, ap, ◌∙◌, subst, arith}
 use Rattle.std.proofs.lemmas.List.{length-append, length-map}
 use Rattle.std.proofs.lemmas.Option.{same_Some, slice_get-map}
-use Rattle.slnf_access.specs.declared.requests.Entry.{Entry}
 use Rattle.slnf_bucket.specs.declared.errors.BucketError.{BucketError}
 use Rattle.slnf_plan.specs.declared.plan.Epoch.{Epoch}
 use Rattle.slnf_plan.specs.declared.plan.InstancePlan.{InstancePlan}
 use Rattle.slnf_plan.specs.declared.plan.Plan.{Plan}
 use Rattle.slnf_turns.specs.declared.views.View.{View}
 use Rattle.slnf_turns.specs.Passes.{IsRoot}
-use Rattle.slnf_run.specs.Setting.{Actor, Setting, base_of}
+use Rattle.slnf_run.specs.Setting.{Actor, base_of}
 use Rattle.slnf_run.specs.Jobs.{job_of}
-use Rattle.slnf_run.specs.Parts.{part_of, at_lane}
+use Rattle.slnf_run.specs.Parts.{at_lane}
 use Rattle.slnf_run.proofs.Lists.{slice_get-append_left}
 use Rattle.slnf_instance.specs.declared.endings.Work.{Work}
-use Rattle.slnf_instance.specs.Ends.{verdicts_in}
 use Rattle.slnf_instance.specs.Errands.{job_in}
 use Rattle.slnf_instance.specs.Items.{Workload}
 use Rattle.slnf_flight.specs.Actors.{instance_actor, sweep_actors, era_of_epoch, eras_of}
@@ -29,11 +27,11 @@ use Rattle.slnf_crew.specs.Errands.{items_work, errand_of, IsWorkOn, AreItemsFor
 use Rattle.slnf_threads.specs.declared.plans.Run.{Run}
 use Rattle.slnf_threads.specs.declared.reports.Desk.{Desk}
 use Rattle.slnf_threads.specs.declared.reports.Report.{Report}
-use Rattle.slnf_threads.specs.Crews.{place_in, EachAt, Pairwise, IsSent}
+use Rattle.slnf_ledger.specs.Ledger.{places_in}
+use Rattle.slnf_threads.specs.Crews.{EachAt, Pairwise, IsSent}
 use Rattle.slnf_threads.specs.Passing.{after_splits}
 use Rattle.slnf_threads.specs.UnderWay.{IsUnderWay}
-use Rattle.slnf_threads.proofs.Fitting.{AreWithin}
-use Rattle.slnf_threads.proofs.Reporting.{ArePasses, AreReports, AreWorksFrom}
+use Rattle.slnf_threads.proofs.Reporting.{ArePasses, AreReports}
 use Rattle.slnf_threads.proofs.Seating.{splits_number}
 
 -- an instance's actor stands at the instance's place
@@ -102,39 +100,6 @@ clock_by r = r.pass.clock
 abbrev pub outcome_by : Report → Result Work BucketError
 outcome_by r = r.outcome
 
-abbrev pub count_of : Work → ℕ
-count_of w = length w.verdicts.items
-
--- each of these took at most as many as there is room
-pub within_from : (room : ℕ → ℕ) (instances : List InstancePlan) (works : List Work) →
-    ((k : ℕ) (i : InstancePlan) (w : Work) → slice_get instances k ≡ Some i → slice_get works k ≡ Some w →
-    count_of w ≤ room i.lane) → AreWithin room instances (map count_of works)
-within_from room [] works h = tt
-within_from room (i ∷ instances) [] h = tt
-within_from room (i ∷ instances) (w ∷ works) h =
-    (h 0 i w refl refl, within_from room instances works (λ k j x j_at x_at. h (suc k) j x j_at x_at))
-
-module _ {F A : Type 0} (s : Setting F A) (es : List Entry) (places : ℕ → ℕ) (lane : ℕ) where
-  pub works_from : (from : ℕ) (instances : List InstancePlan) (works : List Work) → length instances ≤ length works →
-      ((k : ℕ) (i : InstancePlan) (w : Work) → slice_get instances k ≡ Some i → slice_get works k ≡ Some w →
-      w.verdicts.items
-      ≡ verdicts_in (job_of s (from + k) (at_lane places (instance_actor i)) (instance_actor i))
-      (part_of (from + k) es)) →
-      AreWorksFrom s es places lane from instances works
-  works_from from [] works l h = tt
-  works_from from (i ∷ instances) [] l h = absurd (omega (arith, l))
-  works_from from (i ∷ instances) (w ∷ works) l h =
-      let here : from + 0 ≡ from = omega arith in (
-        subst (λ n. w.verdicts.items
-            ≡ verdicts_in (job_of s n (at_lane places (instance_actor i)) (instance_actor i)) (part_of n es)) here
-            (h 0 i w refl refl),
-        works_from (from + 1) instances works (omega (arith, l)) (λ k j x j_at x_at.
-            let next : from + suc k ≡ from + 1 + k = omega arith in
-            subst (λ n. x.verdicts.items
-            ≡ verdicts_in (job_of s n (at_lane places (instance_actor j)) (instance_actor j)) (part_of n es)) next
-            (h (suc k) j x j_at x_at)),
-      )
-
 -- the job of each actor of an epoch, by its work and its errand, is its incarnation's
 abbrev pub HaveJobs : Plan → List Lane → AnyFunction → (ℕ → ℕ) → ℕ → Epoch → Type 0
 HaveJobs plan lanes function places base epoch =
@@ -148,10 +113,10 @@ pub record HasReports (plan : Plan) (lanes : List Lane) (number : ℕ) (run : Ru
     (items : List ActorItems) (desks : List (Desk ActorItems AnyFlight)) (reports : List Report) : Type 0 where
   pub function : AnyFunction
   pub at : slice_get plan.epochs number ≡ Some epoch
-  pub jobs : HaveJobs plan lanes function (place_in run.places.items) run.base epoch
+  pub jobs : HaveJobs plan lanes function (places_in run.ledger) run.base epoch
   pub for_items : AreItemsFor function lanes run.base epoch items
   pub items_count : length items ≡ length (era_of_epoch epoch).actors
-  pub sent : EachAt (λ k d. IsSent plan epoch run.places.items items k d.instance) 0 desks
+  pub sent : EachAt (λ k d. IsSent plan epoch (places_in run.ledger) items k d.instance) 0 desks
   pub passes : ArePasses run.store run.root 0 desks
   pub reported : AreReports run.store run.root desks reports
   pub desks_count : length desks ≡ length items
@@ -160,10 +125,10 @@ pub record HasReports (plan : Plan) (lanes : List Lane) (number : ℕ) (run : Ru
 pub seat_fits : (plan : Plan) (lanes : List Lane) (number : ℕ) (run : Run) (epoch : Epoch) (function : AnyFunction)
     (items : List ActorItems) → IsUnderWay plan lanes number run → AreItemsFor function lanes run.base epoch items →
     (k : ℕ) (item : ActorItems) (i : InstancePlan) → slice_get items k ≡ Some item →
-    slice_get epoch.instances k ≡ Some i → place_in run.places.items i.lane ≤ (items_work item).count
+    slice_get epoch.instances k ≡ Some i → places_in run.ledger i.lane ≤ (items_work item).count
 seat_fits plan lanes number run epoch function items h for_items k item i item_at i_at =
     let work = for_items k item (instance_actor i) item_at (instance_at epoch k i i_at) in
-    subst (λ (w : Workload AnyFlight). place_in run.places.items i.lane ≤ w.count) (sym work) (h.fits i.lane)
+    subst (λ (w : Workload AnyFlight). places_in run.ledger i.lane ≤ w.count) (sym work) (h.fits i.lane)
 
 -- splits keep the root
 pub root_stays : (n : ℕ) (v w : View) → IsRoot v → w ≡ after_splits n v → IsRoot w
@@ -184,10 +149,9 @@ module _ (plan : Plan) (lanes : List Lane) (number : ℕ) (run : Run) (h : IsUnd
     (is : IsFunctionOf plan.function (slice_get plan.epochs number) function) (law : JobsAreIncarnations)
     (all items : List ActorItems) (items_are : items ≡ all)
     (for_items : AreItemsFor function lanes run.base epoch all)
-    (items_count : length all ≡ length (era_of_epoch epoch).actors) (come : List ℕ) (come_is : come ≡ run.places.items)
-    (desks : List (Desk ActorItems AnyFlight))
+    (items_count : length all ≡ length (era_of_epoch epoch).actors) (desks : List (Desk ActorItems AnyFlight))
     (desks_count : length desks ≡ length items)
-    (sent : EachAt (λ k d. IsSent plan epoch come items k d.instance) 0 desks)
+    (sent : EachAt (λ k d. IsSent plan epoch (places_in run.ledger) items k d.instance) 0 desks)
     (passes : ArePasses run.store run.root 0 desks) (reports : List Report)
     (reported : AreReports run.store run.root desks reports) where
   pub has_reports : HasReports plan lanes number run epoch items desks reports
@@ -195,11 +159,11 @@ module _ (plan : Plan) (lanes : List Lane) (number : ℕ) (run : Run) (h : IsUnd
     function = function;
     at = at;
     jobs = λ k actor work.
-        law plan lanes number run.base epoch function (place_in run.places.items) k actor work at h.passed.base_is
+        law plan lanes number run.base epoch function (places_in run.ledger) k actor work at h.passed.base_is
         (subst (λ o. IsFunctionOf plan.function o function) at is);
     for_items = subst (AreItemsFor function lanes run.base epoch) (sym items_are) for_items;
     items_count = ap length items_are ∙ items_count;
-    sent = subst (λ l. EachAt (λ k d. IsSent plan epoch l items k d.instance) 0 desks) come_is sent;
+    sent = sent;
     passes = passes;
     reported = reported;
     desks_count = desks_count;

@@ -10,7 +10,6 @@ mod Passing
 mod Ending
 mod Pairs
 mod Seating
-mod Adding
 mod Beginning
 mod Reporting
 mod EpochWork
@@ -19,5 +18,4 @@ mod Fitting
 mod Gathering
 mod Rooms
 mod Closing
-mod Leaving
 mod Outcomes

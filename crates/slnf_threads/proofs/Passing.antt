@@ -8,11 +8,11 @@ use Rattle.std.proofs.lemmas.Option.{slice_get-map, slice_get_within, same_Some}
 use Rattle.slnf_access.specs.declared.requests.Entry.{Entry}
 use Rattle.slnf_turns.specs.declared.views.Joined.{Joined}
 use Rattle.slnf_turns.specs.declared.views.View.{View}
-use Rattle.slnf_turns.specs.Views.{kept_of, joined_of, after_split, after_join}
+use Rattle.slnf_turns.specs.Views.{kept_of, joined_of, after_split}
 use Rattle.slnf_store.specs.Passes.{entries_of}
 use Rattle.slnf_store.specs.Closes.{list_of}
 use Rattle.slnf_run.specs.Setting.{Actor, Era, Setting, base_of, era_of}
-use Rattle.slnf_run.specs.Parts.{part_of, at_lane, Post, posts_of, posts_from, places_after}
+use Rattle.slnf_run.specs.Parts.{part_of, at_lane, Post, posts_from, places_after}
 use Rattle.slnf_run.specs.Jobs.{job_of}
 use Rattle.slnf_run.proofs.Epochs.{era_of-later}
 use Rattle.slnf_run.proofs.LanePosts.{slice_get_either, slice_get_of_map}
@@ -195,18 +195,19 @@ module _ {F A : Type 0} (s : Setting F A) (number base : ℕ) (places : ℕ → 
   pub agrees_old : (es : List Entry) → AgreesBefore (base + length era.actors) root_behind es → AgreesBefore base root es
   agrees_old es h i l = h i (omega (arith, l)) ∙ list_old i l
 
+  -- the parts of a list that agrees are the lists of the passes
+  pub parts_here : (es : List Entry) → AgreesBefore (base + length era.actors) root_behind es → (k : ℕ) (v : View) →
+      slice_get vs k ≡ Some v → part_of (base + k) es ≡ entries_of v.own
+  parts_here es h k v there =
+      let l : k < length vs = slice_get_within vs k v there in
+      h (base + k) (omega (arith, l, count)) ∙ list_new k v there
+
   module _ (places_behind : ℕ → ℕ)
       (worked : (k : ℕ) (actor : Actor) (v : View) → slice_get era.actors k ≡ Some actor → slice_get vs k ≡ Some v →
       HasWorked (job_of s (base + k) (at_lane places actor) actor) (entries_of v.own))
       (moved : (es : List Entry) → ((k : ℕ) (v : View) → slice_get vs k ≡ Some v →
       part_of (base + k) es ≡ entries_of v.own) → (lane : ℕ) → places_behind lane ≡ places_after s es base places era lane)
     where
-      parts_here : (es : List Entry) → AgreesBefore (base + length era.actors) root_behind es → (k : ℕ) (v : View) →
-          slice_get vs k ≡ Some v → part_of (base + k) es ≡ entries_of v.own
-      parts_here es h k v there =
-          let l : k < length vs = slice_get_within vs k v there in
-          h (base + k) (omega (arith, l, count)) ∙ list_new k v there
-
       worked_behind : (es : List Entry) → AgreesBefore (base + length era.actors) root_behind es →
           HaveWorked s (number + 1) (base + length era.actors) places_behind root_behind es
       worked_behind es h =

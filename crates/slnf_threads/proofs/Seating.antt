@@ -1,15 +1,12 @@
 -- An epoch's actors sit down, each with a pass of its own.
-use Rattle.std.proofs.Common.{◌≡◌, ◌≢◌, ℕ, zero, suc, ◌+◌, ◌<◌, ◌≤◌, Some, None, List, [], ◌∷◌, ◌++◌, length, map, slice_get, refl, sym, ap, ◌∙◌, subst, arith}
+use Rattle.std.proofs.Common.{◌≡◌, ℕ, zero, suc, ◌+◌, ◌<◌, Some, List, [], ◌∷◌, ◌++◌, length, map, slice_get, refl, sym, ap, ◌∙◌, subst, arith}
 use Rattle.std.proofs.lemmas.List.{length_push}
 use Rattle.std.proofs.lemmas.Option.{same_Some}
 use Rattle.slnf_plan.specs.declared.plan.Epoch.{Epoch}
-use Rattle.slnf_plan.specs.declared.plan.InstancePlan.{InstancePlan}
 use Rattle.slnf_plan.specs.declared.plan.Plan.{Plan}
-use Rattle.slnf_plan.specs.declared.plan.SweepPlan.{SweepPlan}
-use Rattle.slnf_plan.specs.declared.plan.SweepPlan.TheVariants.{No, Yes}
 use Rattle.slnf_turns.specs.declared.views.Joined.{Joined}
 use Rattle.slnf_turns.specs.declared.views.View.{View}
-use Rattle.slnf_turns.specs.Views.{newcomer, listed, split_off}
+use Rattle.slnf_turns.specs.Views.{split_off}
 use Rattle.slnf_store.specs.declared.stores.Store.{Store}
 use Rattle.slnf_store.specs.Passes.{PassState, entries_of}
 use Rattle.slnf_store.specs.Stores.{IsOf, shards_of}
@@ -18,13 +15,15 @@ use Rattle.slnf_run.specs.Parts.{at_lane}
 use Rattle.slnf_instance.specs.declared.errands.Errand.{Errand}
 use Rattle.slnf_instance.specs.Errands.{job_in, IsErrand}
 use Rattle.slnf_instance.specs.Instances.{Acting, StandsBy}
-use Rattle.slnf_flight.specs.Actors.{instance_actor, sweep_actors, era_of_epoch}
+use Rattle.slnf_flight.specs.Actors.{era_of_epoch}
 use Rattle.slnf_flight.specs.declared.flights.AnyFlight.{AnyFlight}
 use Rattle.slnf_crew.specs.declared.items.ActorItems.{ActorItems}
 use Rattle.slnf_crew.specs.Errands.{items_work, errand_of}
-use Rattle.slnf_threads.specs.Crews.{place_in, begins_at, IsSent, IsNewPass}
+use Rattle.slnf_ledger.specs.Ledger.{place_at}
+use Rattle.slnf_ledger.proofs.Placing.{actor_place}
+use Rattle.slnf_threads.specs.Crews.{IsSent, IsNewPass}
 use Rattle.slnf_threads.specs.Passing.{after_splits}
-use Rattle.slnf_threads.specs.Reports.{IsReady, job_by}
+use Rattle.slnf_threads.specs.Reports.{IsReady}
 use Rattle.slnf_threads.proofs.Rules.{some_at}
 
 -- splits keep the root's number, and are counted
@@ -41,41 +40,21 @@ splits_before (suc n) v =
     length_push (after_splits n v).before (map (λ (x : Joined). x.listed.number) (after_splits n v).joined) in
     omega (arith, rest, last)
 
--- where the actor with this number begins
-pub actor_begins : (epoch : Epoch) (places : List ℕ) (k : ℕ) (actor : Actor) →
-    slice_get (era_of_epoch epoch).actors k ≡ Some actor →
-    at_lane (place_in places) actor ≡ begins_at places (slice_get epoch.instances k)
-actor_begins epoch places k actor at = go epoch.instances k at
-  where
-    of_sweep : (sweep : SweepPlan) (k : ℕ) → slice_get (sweep_actors sweep) k ≡ Some actor →
-        at_lane (place_in places) actor ≡ 0
-    of_sweep No k at = absurd (cc)
-    of_sweep (Yes stop) zero at =
-        ap (at_lane (place_in places)) (sym (same_Some (record { lane = None; quota = None; stop = stop }) actor at))
-    of_sweep (Yes stop) (suc k) at = absurd (cc)
-
-    go : (instances : List InstancePlan) (k : ℕ) →
-        slice_get (map instance_actor instances ++ sweep_actors epoch.sweep) k ≡ Some actor →
-        at_lane (place_in places) actor ≡ begins_at places (slice_get instances k)
-    go [] k at = of_sweep epoch.sweep k at
-    go (i ∷ instances) zero at = ap (at_lane (place_in places)) (sym (same_Some (instance_actor i) actor at))
-    go (i ∷ instances) (suc k) at = go instances k at
-
 -- What is known of an actor's errand.
-pub record HasErrand (plan : Plan) (epoch : Epoch) (places : List ℕ) (number at count : ℕ) (errand : Errand) : Type 0
+pub record HasErrand (plan : Plan) (epoch : Epoch) (places : ℕ → ℕ) (number at count : ℕ) (errand : Errand) : Type 0
   where
     pub is : IsErrand count errand
     pub given : (places : ℕ → ℕ) (actor : Actor) → slice_get (era_of_epoch epoch).actors number ≡ Some actor →
         at_lane places actor ≡ at → errand ≡ errand_of plan places actor count
-    pub begins : at ≡ begins_at places (slice_get epoch.instances number)
+    pub begins : at ≡ place_at places epoch.instances number
 
-module _ (plan : Plan) (epoch : Epoch) (places : List ℕ) (items : List ActorItems) (number at : ℕ) (item : ActorItems)
+module _ (plan : Plan) (epoch : Epoch) (places : ℕ → ℕ) (items : List ActorItems) (number at : ℕ) (item : ActorItems)
     (errand : Errand) (has : HasErrand plan epoch places number at (items_work item).count errand)
     (there : slice_get items number ≡ Some item) where
   errand_by : (actor : Actor) → slice_get (era_of_epoch epoch).actors number ≡ Some actor →
-      errand ≡ errand_of plan (place_in places) actor (items_work item).count
+      errand ≡ errand_of plan places actor (items_work item).count
   errand_by actor actor_at =
-      has.given (place_in places) actor actor_at (actor_begins epoch places number actor actor_at ∙ sym has.begins)
+      has.given places actor actor_at (actor_place epoch places number actor actor_at ∙ sym has.begins)
 
   pub errand_shards : number < length (era_of_epoch epoch).actors → errand.shards ≡ plan.shards
   errand_shards l =
@@ -90,7 +69,7 @@ module _ (plan : Plan) (epoch : Epoch) (places : List ℕ) (items : List ActorIt
           let same : item ≡ other = same_Some item other (sym there ∙ other_at) in
           sent
           ∙ (errand_by actor actor_at
-          ∙ ap (λ (x : ActorItems). errand_of plan (place_in places) actor (items_work x).count) same);
+          ∙ ap (λ (x : ActorItems). errand_of plan places actor (items_work x).count) same);
       stands = λ other other_at.
           let same : item ≡ other = same_Some item other (sym there ∙ other_at) in
           subst (λ (x : ActorItems). StandsBy items_work (job_in (items_work x) i.errand) [] i) same

@@ -1,18 +1,15 @@
 -- The actors of an epoch at their desks, and what their reports come to.
-use Rattle.std.specs.Prelude.{◌≡◌, ◌≢◌, ◌⊎◌, ℕ, ◌+◌, Some, None, Option, Result, Ok, Err, List, [], ◌∷◌, get_or, slice_get}
+use Rattle.std.specs.Prelude.{◌≡◌, ◌⊎◌, ℕ, ◌+◌, Some, Result, Ok, Err, List, [], ◌∷◌, slice_get}
 use Rattle.slnf_bucket.specs.declared.errors.BucketError.{BucketError}
 use Rattle.slnf_bucket.specs.declared.errors.BucketError.TheVariants.{StampsSpent}
 use Rattle.slnf_plan.specs.declared.plan.Epoch.{Epoch}
-use Rattle.slnf_plan.specs.declared.plan.InstancePlan.{InstancePlan}
 use Rattle.slnf_plan.specs.declared.plan.Plan.{Plan}
-use Rattle.slnf_turns.specs.declared.views.View.{View}
 use Rattle.slnf_turns.specs.Views.{split_off}
 use Rattle.slnf_store.specs.declared.stores.Store.{Store}
 use Rattle.slnf_store.specs.Passes.{PassState}
 use Rattle.slnf_store.specs.Stores.{IsOf}
 use Rattle.slnf_run.specs.Setting.{Actor}
 use Rattle.slnf_instance.specs.declared.endings.Work.{Work}
-use Rattle.slnf_instance.specs.declared.errands.Errand.{Errand}
 use Rattle.slnf_instance.specs.Errands.{job_in}
 use Rattle.slnf_instance.specs.Instances.{Acting, StandsBy}
 use Rattle.slnf_flight.specs.Actors.{era_of_epoch}
@@ -20,10 +17,6 @@ use Rattle.slnf_flight.specs.declared.flights.AnyFlight.{AnyFlight}
 use Rattle.slnf_crew.specs.declared.items.ActorItems.{ActorItems}
 use Rattle.slnf_crew.specs.Errands.{items_work, errand_of}
 use Rattle.slnf_threads.specs.Passing.{after_splits}
-
--- how far a lane has come
-abbrev pub place_in : List ℕ → ℕ → ℕ
-place_in places lane = get_or places lane 0
 
 -- what holds of each of these, the first of which has this number
 abbrev pub EachAt : {X : Type 0} → (ℕ → X → Type 0) → ℕ → List X → Type 0
@@ -37,18 +30,13 @@ Pairwise P [] (y ∷ ys) = ⊥
 Pairwise P (x ∷ xs) [] = ⊥
 Pairwise P (x ∷ xs) (y ∷ ys) = P x y × Pairwise P xs ys
 
--- where an epoch's actor with this number begins
-abbrev pub begins_at : List ℕ → Option InstancePlan → ℕ
-begins_at places None = 0
-begins_at places (Some i) = place_in places i.lane
-
 -- The actor with this number of an epoch is sent on the plan's errand over its items, and stands before its first
 -- access.
-pub record IsSent (plan : Plan) (epoch : Epoch) (places : List ℕ) (items : List ActorItems) (number : ℕ)
+pub record IsSent (plan : Plan) (epoch : Epoch) (places : ℕ → ℕ) (items : List ActorItems) (number : ℕ)
     (i : Acting ActorItems AnyFlight) : Type 0 where
   pub errand : (actor : Actor) (item : ActorItems) → slice_get (era_of_epoch epoch).actors number ≡ Some actor →
       slice_get items number ≡ Some item →
-      i.errand ≡ errand_of plan (place_in places) actor (items_work item).count
+      i.errand ≡ errand_of plan places actor (items_work item).count
   pub stands : (item : ActorItems) → slice_get items number ≡ Some item →
       StandsBy items_work (job_in (items_work item) i.errand) [] i
 

@@ -4,6 +4,5 @@ pub mod Reports
 pub mod Parts
 pub mod Passing
 pub mod Crews
-pub mod Taken
 pub mod UnderWay
 pub mod Merged

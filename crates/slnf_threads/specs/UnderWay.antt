@@ -4,11 +4,11 @@ use Rattle.slnf_plan.specs.declared.plan.Plan.{Plan}
 use Rattle.slnf_turns.specs.Passes.{AllJoined, IsRoot}
 use Rattle.slnf_store.specs.Stores.{IsOf, shards_of}
 use Rattle.slnf_flight.specs.declared.lanes.Lane.{Lane}
-use Rattle.slnf_flight.specs.Lanes.{packets_on}
 use Rattle.slnf_flight.specs.PlanSetting.{setting_of}
 use Rattle.slnf_threads.specs.declared.plans.Run.{Run}
-use Rattle.slnf_threads.specs.Crews.{place_in}
-use Rattle.slnf_threads.specs.Passing.{HavePassed, AreAtWork, IsClockOf, HasLateStamp}
+use Rattle.slnf_ledger.specs.Ledger.{places_in, IsFitting}
+use Rattle.slnf_ledger.specs.Told.{IsToldSoFar}
+use Rattle.slnf_threads.specs.Passing.{AgreesBefore, HavePassed, AreAtWork, IsClockOf, HasLateStamp}
 
 -- The store is the plan's, and all passes that were split from its root were joined.
 pub record IsGathered (plan : Plan) (run : Run) : Type 0 where
@@ -18,12 +18,14 @@ pub record IsGathered (plan : Plan) (run : Run) : Type 0 where
   pub joined : AllJoined run.root.known
   pub clock : IsClockOf run.root.known run.root.clock
 
--- The epochs before the one with this number have passed, and no lane has come farther than its packets.
+-- The epochs before the one with this number have passed. The ledger has the verdicts of the packets that were taken, as
+-- each journal tells them whose parts are the lists of the passes, and no lane has come farther than its packets.
 pub record IsUnderWay (plan : Plan) (lanes : List Lane) (number : ℕ) (run : Run) : Type 0 where
   pub gathered : IsGathered plan run
-  pub passed : HavePassed (setting_of plan lanes) number run.base (place_in run.places.items) run.root.known
-  pub fits : (lane : ℕ) → place_in run.places.items lane ≤ length (packets_on lanes lane)
-  pub lanes_are : length run.places.items ≡ 32
+  pub passed : HavePassed (setting_of plan lanes) number run.base (places_in run.ledger) run.root.known
+  pub told : IsToldSoFar (setting_of plan lanes) (AgreesBefore run.base run.root.known) number run.base run.ledger
+  pub fits : IsFitting lanes run.ledger
+  pub lanes_are : length run.ledger ≡ 32
   pub base : run.base ≤ 33 * number
 
 -- Stamps are said to be spent: each actor of the incarnations before `upto` has worked so far, and a late stamp is kept.

@@ -7,17 +7,18 @@ ghost use Rattle.slnf_store.specs.Stores.{IsOf, shards_of};
 ghost use Rattle.slnf_flight.specs.Actors.{era_of_epoch};
 ghost use Rattle.slnf_crew.specs.declared.items.ActorItems.{ActorItems};
 ghost use Rattle.slnf_crew.specs.Errands.{items_work};
-ghost use Rattle.slnf_threads.specs.Crews.{place_in, EachAt, Pairwise, IsSent, IsNewPass, SomeSpent};
+ghost use Rattle.slnf_ledger.specs.Ledger.{places_in};
+ghost use Rattle.slnf_threads.specs.Crews.{EachAt, Pairwise, IsSent, IsNewPass, SomeSpent};
 ghost use Rattle.slnf_threads.specs.Passing.{after_splits, after_joins, clock_after};
 ghost use Rattle.slnf_threads.specs.Reports.{IsReady, IsReport};
 
 use crate::epochs::run_epoch;
-use crate::places::place_of;
 use crate::reports::{Desk, Report};
 use slnf_base::NoMemory;
 use slnf_bucket::BucketError;
 use slnf_crew::{ActorItems, errand_for};
 use slnf_instance::{Instance, Work};
+use slnf_ledger::{Ledger, place_of};
 use slnf_plan::{Epoch, Plan};
 use slnf_store::{Gate, Store, StorePass};
 use std::alloc::Global;
@@ -25,20 +26,18 @@ use std::sync::Wait;
 use std::thread;
 use std::thread::Threads;
 
-/// A desk for each actor of an epoch, in order. Lanes have come so far.
+/// A desk for each actor of an epoch, in order. Lanes have come as far as the ledger tells.
 pub(crate) fn seat<'a, 'b>(
     alloc: Global,
     plan: &Plan,
     epoch: &Epoch,
-    places: &[usize],
+    ledger: &Ledger,
     items: &'b [ActorItems<'a>],
     store: &Store,
     root: &mut StorePass,
 ) -> Result<Vec<Desk<'b, ActorItems<'a>>>, NoMemory>
-    requires lanes { (k : ℕ) (i : InstancePlan) → slice_get epoch.now.instances k ≡ Some i
-        → i.lane < length places.now }
     requires fits { (k : ℕ) (item : ActorItems) (i : InstancePlan) → slice_get items.now k ≡ Some item
-        → slice_get epoch.now.instances k ≡ Some i → place_in places.now i.lane ≤ (items_work item).count }
+        → slice_get epoch.now.instances k ≡ Some i → places_in ledger.now i.lane ≤ (items_work item).count }
     requires shards { plan.now.shards ≡ shards_of store.now }
     requires here { IsOf store.now root.old }
     requires root { IsRoot root.old.known }
@@ -50,14 +49,14 @@ pub(crate) fn seat<'a, 'b>(
     ensures count { IfOk result (λ desks. length desks.items ≡ length items.now) }
     ensures ready { IfOk result (λ desks. All (λ d. IsReady items_work store.now d.instance d.errand d.pass)
         desks.items) }
-    ensures sent { IfOk result (λ desks. EachAt (λ k d. IsSent plan.now epoch.now places.now items.now k d.instance) 0
+    ensures sent { IfOk result (λ desks. EachAt (λ k d. IsSent plan.now epoch.now (places_in ledger.now) items.now k d.instance) 0
         desks.items) }
     ensures passes { IfOk result (λ desks. EachAt (λ k d. IsNewPass store.now root.old k d.pass) 0 desks.items) }
 {
     let mut desks = Vec::with_capacity(alloc, items.len())?;
     for number in 0..items.len() {
         let item = &items[number];
-        let at = place_of(places, epoch.instances.as_slice(), number);
+        let at = place_of(epoch.instances.as_slice(), ledger, number);
         let errand = errand_for(plan, epoch, number, at, item.count());
         let instance = Instance::make(alloc, item, errand)?;
         let pass = store.split(root);

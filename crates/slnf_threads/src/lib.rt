@@ -4,8 +4,6 @@
 mod crews;
 mod epochs;
 mod journals;
-mod lefts;
-mod places;
 mod plans;
 mod reports;
 mod takes;

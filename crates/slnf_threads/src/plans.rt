@@ -15,27 +15,25 @@ ghost use Rattle.slnf_threads.specs.UnderWay.{IsUnderWay, IsStuck, HaveAllPassed
 
 use crate::crews::{gather, seat, side_by_side};
 use crate::journals::journal_of;
-use crate::lefts::left_in;
-use crate::places::add_taken;
 use slnf_base::{NoMemory, Row};
 use slnf_crew::{actors_have_jobs, epoch_of, items_of};
 use slnf_flight::{AnyFunction, Lane, Outcome};
+use slnf_ledger::{Ledger, add_works, left_in};
 use slnf_plan::Plan;
 use slnf_setting::know_types;
 use slnf_store::{Gate, Store, StorePass};
-use slnf_verdicts::verdicts_of;
 use std::alloc::Global;
 use std::hash::RandomState;
 use std::sync::Wait;
 use std::thread::Threads;
 
-/// A run between two epochs: the store and its root pass, how far each of the 32 lanes has come, and the first incarnation
-/// of the next epoch.
+/// A run between two epochs: the store and its root pass, the verdicts of each of the 32 lanes so far, and the first
+/// incarnation of the next epoch.
 #[derive(Drop)]
 struct Run {
     store: Store,
     root: StorePass,
-    places: Vec<usize>,
+    ledger: Ledger,
     base: u64,
 }
 
@@ -48,7 +46,7 @@ impl Run {
         Ok(Run {
             store,
             root,
-            places: vec![in alloc; 0; 32]?,
+            ledger: Ledger::make(alloc, 32)?,
             base: 0,
         })
     }
@@ -79,7 +77,7 @@ fn pass_epoch<R: Threads + Wait + Sync, G: Gate + Sync>(
         alloc,
         plan,
         epoch,
-        run.places.as_slice(),
+        &run.ledger,
         items.as_slice(),
         &run.store,
         &mut run.root,
@@ -89,11 +87,11 @@ fn pass_epoch<R: Threads + Wait + Sync, G: Gate + Sync>(
     let Some(works) = gather(alloc, &run.store, &mut run.root, reports)? else {
         return Ok(false);
     };
-    add_taken(
-        run.places.as_mut_slice(),
+    add_works(
+        &mut run.ledger,
         epoch.instances.as_slice(),
         works.as_slice(),
-    );
+    )?;
     run.base += count as u64;
     Ok(true)
 }
@@ -158,7 +156,7 @@ pub fn run_plan<R: Threads + Wait + Sync, G: Gate + Sync>(
     if !passed {
         unreachable!();
     }
-    let verdicts = verdicts_of(alloc, plan, lanes, journal.as_slice())?;
+    let verdicts = run.ledger.fill(alloc, lanes)?;
     let left = left_in(verdicts.as_slice());
     Ok(Outcome {
         journal: Row::from_vec(journal),

@@ -7,9 +7,9 @@ use Rattle.slnf_instance.specs.Errands.{job_in}
 use Rattle.slnf_instance.specs.Instances.{StandsBy}
 use Rattle.slnf_crew.specs.Errands.{items_work, errand_of}
 use Rattle.slnf_crew.proofs.Laws.{pushed}
-use Rattle.slnf_orch.specs.Hiring.{place_at, IsHired}
-use Rattle.slnf_orch.specs.Ledger.{places_in}
-use Rattle.slnf_orch.proofs.EpochPasses.{actor_place}
+use Rattle.slnf_orch.specs.Hiring.{IsHired}
+use Rattle.slnf_ledger.specs.Ledger.{places_in, place_at}
+use Rattle.slnf_ledger.proofs.Placing.{actor_place}
 use Rattle.slnf_orch.proofs.crews.crew_of.Goals as goal
 
 pub loop-number-preserved : goal.loop-number-preserved

@@ -4,7 +4,7 @@ use Rattle.slnf_flight.specs.declared.functions.AnyFunction.{AnyFunction}
 use Rattle.slnf_flight.specs.declared.lanes.Lane.{Lane}
 use Rattle.slnf_crew.specs.Errands.{AreItemsFor}
 use Rattle.slnf_orch.specs.Hiring.{AreHired}
-use Rattle.slnf_orch.specs.Ledger.{places_in}
+use Rattle.slnf_ledger.specs.Ledger.{places_in}
 use Rattle.slnf_orch.proofs.crews.crew_of.Given as goal
 
 abbrev pub invariant-loop-number : goal.invariant-loop-number

@@ -3,8 +3,8 @@ use Rattle.std.proofs.Common.{◌≤◌, ◌++◌, ◌∙◌, length, sym, ap, a
 use Rattle.std.proofs.Math.ListN.{drop_of_length-le}
 use Rattle.std.proofs.lemmas.List.{nil_from_length}
 use Rattle.std.specs.Vec.Iter.{into_iter_items}
-use Rattle.slnf_orch.specs.Ledger.{verdicts_at, given_from}
-use Rattle.slnf_orch.proofs.Handing.{at_drop, handed_step, none_left}
+use Rattle.slnf_ledger.specs.Ledger.{verdicts_at, given_from}
+use Rattle.slnf_ledger.proofs.Handing.{at_drop, handed_step, none_left}
 use Rattle.slnf_orch.proofs.crews.hand_over.Goals as goal
 
 pub loop-actor-preserved : goal.loop-actor-preserved

@@ -4,7 +4,8 @@ use Rattle.std.specs.Vec.Iter.{into_iter_items}
 use Rattle.slnf_access.specs.declared.requests.Entry.{Entry}
 use Rattle.slnf_plan.specs.declared.plan.InstancePlan.{InstancePlan}
 use Rattle.slnf_run.specs.Jobs.{Job}
-use Rattle.slnf_orch.specs.Ledger.{verdicts_at, DoStand, given_from}
+use Rattle.slnf_ledger.specs.Ledger.{verdicts_at, given_from}
+use Rattle.slnf_orch.specs.Hiring.{DoStand}
 use Rattle.slnf_orch.proofs.crews.hand_over.Given as goal
 
 abbrev pub invariant-loop-actor : goal.invariant-loop-actor

@@ -13,10 +13,11 @@ use Rattle.slnf_crew.specs.Errands.{items_work}
 use Rattle.slnf_run.specs.Jobs.{Job}
 use Rattle.slnf_run.specs.Parts.{part_of}
 use Rattle.slnf_orch.specs.Actors.{Stage, at_work, turns_in, AreStanding, AreDone}
-use Rattle.slnf_orch.specs.Ledger.{verdicts_at, places_in, DoStand, given_from}
+use Rattle.slnf_ledger.specs.Ledger.{verdicts_at, places_in, given_from}
+use Rattle.slnf_orch.specs.Hiring.{DoStand}
 use Rattle.slnf_orch.specs.Passing.{IsUnderWay}
 use Rattle.slnf_orch.proofs.EpochPasses.{instance_at, instances_most, epoch_stage, crew_stands, crew_has_room, end_list, end_stands, has_ended}
-use Rattle.slnf_orch.proofs.Giving.{job_there}
+use Rattle.slnf_ledger.proofs.Giving.{job_there}
 use Rattle.slnf_orch.proofs.UnderWay.{era_there, under_way_next}
 use Rattle.slnf_orch.proofs.epochs.run_epoch.Goals as goal
 

@@ -1,7 +1,8 @@
 -- the epochs have passed, and their journal is a run of the plan
 use Rattle.std.proofs.Common.{◌<◌, ◌^◌, sym, ap, ◌∙◌, subst}
 use Rattle.slnf_run.specs.Verdicts.{left_in}
-use Rattle.slnf_orch.proofs.Closing.{scheduled_last, verdicts_last, left_few}
+use Rattle.slnf_ledger.proofs.Filled.{left_few}
+use Rattle.slnf_orch.proofs.Closing.{scheduled_last, verdicts_last}
 use Rattle.slnf_orch.proofs.plans.step_plan.Goals as goal
 
 pub left_in-left-requires : goal.left_in-left-requires

@@ -9,7 +9,8 @@ use Rattle.slnf_crew.specs.declared.items.ActorItems.{ActorItems}
 use Rattle.slnf_crew.specs.Errands.{items_work, errand_of}
 use Rattle.slnf_instance.specs.Errands.{IsErrand}
 use Rattle.slnf_threads.specs.declared.reports.Desk.{Desk}
-use Rattle.slnf_threads.specs.Crews.{begins_at, EachAt, IsSent, IsNewPass}
+use Rattle.slnf_ledger.specs.Ledger.{places_in, place_at}
+use Rattle.slnf_threads.specs.Crews.{IsSent, IsNewPass}
 use Rattle.slnf_threads.specs.Passing.{after_splits}
 use Rattle.slnf_threads.specs.Reports.{IsReady}
 use Rattle.slnf_threads.proofs.Pairs.{each_push}
@@ -45,13 +46,14 @@ loop-number-preserved c =
     let within : number < length c.args.items.now = c.loop-number-test.true in
     let there : slice_get c.args.items.now number ≡ Some item =
     slice_get-get_or c.args.items.now number item within ∙ ap Some (sym c.index-items-number.is) in
-    let has : HasErrand c.args.plan.now c.args.epoch.now c.args.places.now number c.place_of-at.result
+    let has : HasErrand c.args.plan.now c.args.epoch.now (places_in c.args.ledger.now) number c.place_of-at.result
     (items_work item).count desk.errand = record {
       is = subst (λ n. IsErrand n c.errand_for-errand.result) c.count.ensures.is
           c.errand_for-errand.ensures.errand;
       given = λ places actor actor_at at. c.errand_for-errand.ensures.given places actor actor_at at
           ∙ ap (errand_of c.args.plan.now places actor) c.count.ensures.is;
-      begins = c.place_of-at.ensures ∙ ap (λ l. begins_at c.args.places.now (slice_get l number)) c.as_slice.ensures;
+      begins = c.place_of-at.ensures
+          ∙ ap (λ l. place_at (places_in c.args.ledger.now) l number) c.as_slice.ensures;
     } in
     let split = c.split-pass.ensures in
     let items = c.in_ok-push.ensures.items in
@@ -65,15 +67,15 @@ loop-number-preserved c =
       clock = split.clock.0 ∙ now.clock;
       ready = rw items (All-push (λ (d : Desk ActorItems AnyFlight).
           IsReady items_work c.args.store.now d.instance d.errand d.pass) desks desk now.ready
-          (is_ready c.args.plan.now c.args.epoch.now c.args.places.now c.args.items.now number c.place_of-at.result item
+          (is_ready c.args.plan.now c.args.epoch.now (places_in c.args.ledger.now) c.args.items.now number c.place_of-at.result item
           desk.errand has there desk.instance c.in_ok-instance.ensures.errand c.in_ok-instance.ensures.stands
           c.args.store.now desk.pass c.loop-number.root.known split.here.1 split.pass
           (omega (arith, within, c.requires.actors)) c.requires.shards));
       sent = rw items (each_push (λ k (d : Desk ActorItems AnyFlight).
-          IsSent c.args.plan.now c.args.epoch.now c.args.places.now c.args.items.now k d.instance) 0 desks desk now.sent
-          (subst (λ k. IsSent c.args.plan.now c.args.epoch.now c.args.places.now c.args.items.now k desk.instance)
+          IsSent c.args.plan.now c.args.epoch.now (places_in c.args.ledger.now) c.args.items.now k d.instance) 0 desks desk now.sent
+          (subst (λ k. IsSent c.args.plan.now c.args.epoch.now (places_in c.args.ledger.now) c.args.items.now k desk.instance)
           (sym last)
-          (is_sent c.args.plan.now c.args.epoch.now c.args.places.now c.args.items.now number c.place_of-at.result item
+          (is_sent c.args.plan.now c.args.epoch.now (places_in c.args.ledger.now) c.args.items.now number c.place_of-at.result item
           desk.errand has there desk.instance c.in_ok-instance.ensures.errand c.in_ok-instance.ensures.stands)));
       passes = rw items (each_push (λ k (d : Desk ActorItems AnyFlight).
           IsNewPass c.args.store.now c.args.root.now k d.pass) 0 desks desk now.passes

@@ -1,12 +1,11 @@
 -- the epochs have passed, and their journal is a run of the plan
-use Rattle.std.proofs.Common.{◌≡◌, ◌<◌, ◌^◌, sym, ap, ◌∙◌, subst}
-use Rattle.slnf_run.specs.Run.{IsRun}
+use Rattle.std.proofs.Common.{◌≡◌, ◌<◌, ◌^◌, sym, ap, ◌∙◌, subst, arith}
 use Rattle.slnf_run.specs.Stamps.{HasClockStamps}
 use Rattle.slnf_run.specs.Verdicts.{verdicts_of, left_in}
 use Rattle.slnf_flight.specs.PlanSetting.{setting_of}
 use Rattle.slnf_setting.specs.Runs.{IsRunOfPlan}
-use Rattle.slnf_threads.proofs.Leaving.{left_few}
-use Rattle.slnf_threads.proofs.Outcomes.{told_at_end, never_spent}
+use Rattle.slnf_ledger.proofs.Filled.{left_few}
+use Rattle.slnf_threads.proofs.Outcomes.{told_at_end, verdicts_at_end, never_spent}
 use Rattle.slnf_threads.proofs.plans.run_plan.Goals as goal
 
 pub unreachable-requires : goal.unreachable-requires
@@ -14,18 +13,16 @@ unreachable-requires g c =
     never_spent c.args.plan.now c.args.lanes.now c.know_types.ensures c.requires.few_packets c.pass_epochs.new.run
     c.in_ok-journal.journal.items c.in_ok-journal.ensures (c.in_ok-passed.ensures.stuck c.if-not-passed.true)
 
-pub verdicts_of-requires-clause-run : goal.verdicts_of-requires-clause-run
-verdicts_of-requires-clause-run g c =
-    let plan = c.args.plan.now in
-    let lanes = c.args.lanes.now in
-    subst (IsRun (setting_of plan lanes)) (sym c.as_slice.ensures.value)
-    (told_at_end plan lanes c.know_types.ensures c.requires.few_packets c.pass_epochs.new.run
-    c.in_ok-journal.journal.items c.in_ok-journal.ensures (c.in_ok-passed.ensures.passed c.if-not-passed.false)).0.run
+pub fill-requires : goal.fill-requires
+fill-requires g c =
+    let passed = c.in_ok-passed.ensures.passed c.if-not-passed.false in
+    omega (arith, c.requires.few_lanes, passed.under_way.lanes_are)
 
 pub left_in-left-requires : goal.left_in-left-requires
 left_in-left-requires g c =
-    subst (λ l. left_in l < 2 ^ 64) (sym (c.as_slice-2.ensures ∙ c.in_ok-verdicts.ensures))
-    (left_few c.args.plan.now c.args.lanes.now c.as_slice.result.now c.requires.few_packets)
+    let passed = c.in_ok-passed.ensures.passed c.if-not-passed.false in
+    subst (λ l. left_in l < 2 ^ 64) (sym (c.as_slice.ensures ∙ c.in_ok-verdicts.ensures))
+    (left_few c.pass_epochs.new.run.ledger c.args.lanes.now passed.under_way.fits c.requires.few_packets)
 
 pub returns : goal.returns
 returns g c =
@@ -46,6 +43,8 @@ returns g c =
       few = run.few;
       well = run.well;
       verdicts = c.in_ok-verdicts.ensures
-          ∙ ap (verdicts_of (setting_of plan lanes)) (c.as_slice.ensures.value ∙ sym whole);
-      left = c.left_in-left.ensures ∙ ap left_in c.as_slice-2.ensures;
+          ∙ (verdicts_at_end plan lanes c.know_types.ensures c.requires.few_packets c.pass_epochs.new.run journal
+          c.in_ok-journal.ensures (c.in_ok-passed.ensures.passed c.if-not-passed.false)
+          ∙ ap (verdicts_of (setting_of plan lanes)) (sym whole));
+      left = c.left_in-left.ensures ∙ ap left_in c.as_slice.ensures;
     }

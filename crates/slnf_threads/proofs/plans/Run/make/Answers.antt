@@ -9,9 +9,9 @@ returns c lanes =
     let run : Run = record {
       store = c.in_ok-store.store;
       root = c.in_ok-store.root;
-      places = c.in_ok-vec.field-0;
+      ledger = c.in_ok-make.field-0;
       base = 0;
     } in
     let root = c.in_ok-store.ensures.root in
     under_way_first c.args.plan.now lanes run root.0 c.in_ok-store.ensures.shards root.1 root.2 refl
-    (c.in_ok-vec.ensures.items_if_clones_equal (λ y same. same))
+    c.in_ok-make.ensures.count c.in_ok-make.ensures.none
