@@ -21,7 +21,7 @@ pub struct Inputs {
 }
 
 /// Reads the plan and the captures.
-pub fn read_inputs<S: Shelf>(
+pub(crate) fn read_inputs<S: Shelf>(
     alloc: Global,
     shelf: &mut S,
     plan: &str,
@@ -47,7 +47,7 @@ fn read_lane<S: Shelf>(alloc: Global, shelf: &mut S, name: &str) -> Result<Lane>
 }
 
 /// Whether the lanes have at most so many packets.
-pub fn are_few(lanes: &[Lane], most: u64) -> bool
+pub(crate) fn are_few(lanes: &[Lane], most: u64) -> bool
     ensures { result ≡ nat_le (packet_count lanes.now) most }
 {
     match lanes {

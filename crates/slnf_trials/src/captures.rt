@@ -72,7 +72,7 @@ fn capture_of(alloc: Global, text: &str) -> Result<Vec<u8>, AllocError> {
 }
 
 /// The capture of the packets of these letters, of at most 1,024 of them, and its lane.
-pub fn read_lane(alloc: Global, text: &str) -> Result<OneLane, Fail>
+pub(crate) fn read_lane(alloc: Global, text: &str) -> Result<OneLane, Fail>
     ensures read { IfOk result (λ one. IsRead one.given one.lane) }
     ensures few { IfOk result (λ one. length one.lane.packets ≤ 1024) }
 {

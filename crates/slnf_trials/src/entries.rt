@@ -37,20 +37,20 @@ pub const TO_SECOND: Value = Value(0xcb00_7101_9c41);
 
 pub const TO_THIRD: Value = Value(0xcb00_7101_9c42);
 
-pub fn read(key: Key) -> Request {
+pub(crate) fn read(key: Key) -> Request {
     Request::Read { key }
 }
 
-pub fn put(key: Key, value: Value) -> Request {
+pub(crate) fn put(key: Key, value: Value) -> Request {
     Request::PutIfAbsent { key, value }
 }
 
-pub fn delete(key: Key, version: u64) -> Request {
+pub(crate) fn delete(key: Key, version: u64) -> Request {
     Request::DeleteIf { key, version }
 }
 
 /// An entry by its stamp, incarnation and item in the one shard.
-pub fn entry(numbers: [u64; 3], request: Request, reply: Reply) -> Entry {
+pub(crate) fn entry(numbers: [u64; 3], request: Request, reply: Reply) -> Entry {
     let [stamp, incarnation, item] = numbers;
     Entry {
         stamp,

@@ -9,22 +9,22 @@ pub struct Flag {
 }
 
 impl Flag {
-    pub fn new() -> Flag {
+    pub(crate) fn new() -> Flag {
         Flag {
             seen: AtomicBool::new(false),
         }
     }
 
-    pub fn raise(&self) {
+    pub(crate) fn raise(&self) {
         self.seen.store(true, Ordering::SeqCst);
     }
 
-    pub fn is_raised(&self) -> bool {
+    pub(crate) fn is_raised(&self) -> bool {
         self.seen.load(Ordering::SeqCst)
     }
 
     /// Waits until the flag is raised. Where it isn't after so many loads the mark is.
-    pub fn hold(&self, most: u64, mark: &Flag) {
+    pub(crate) fn hold(&self, most: u64, mark: &Flag) {
         for _ in 0..most {
             if self.is_raised() {
                 return;

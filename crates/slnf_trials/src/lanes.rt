@@ -61,7 +61,7 @@ const SERVER: Pair = Pair {
 };
 
 /// The packet of a letter. Another letter's has a reason against it.
-pub fn packet(letter: char) -> Taken
+pub(crate) fn packet(letter: char) -> Taken
     ensures { IsTrue (is_taken result) }
 {
     match letter {
@@ -120,7 +120,7 @@ fn lane_of(alloc: Global, text: &str) -> Result<Lane, AllocError>
 }
 
 /// The lanes of a text, of its first 32.
-pub fn lanes_of(alloc: Global, text: &str) -> Result<Vec<Lane>, AllocError>
+pub(crate) fn lanes_of(alloc: Global, text: &str) -> Result<Vec<Lane>, AllocError>
     ensures lanes { IfOk result (λ lanes. length lanes.items ≤ 32) }
     ensures packets { IfOk result (λ lanes. packet_count lanes.items ≤ 1048576) }
 {
@@ -133,7 +133,7 @@ pub fn lanes_of(alloc: Global, text: &str) -> Result<Vec<Lane>, AllocError>
     Ok(lanes)
 }
 
-pub fn plan_of(alloc: Global, plan: &str, epochs: &str) -> Result<Plan, Fail> {
+pub(crate) fn plan_of(alloc: Global, plan: &str, epochs: &str) -> Result<Plan, Fail> {
     let text = format!(in alloc; "{plan}{epochs}")?;
     Ok(read_plan(alloc, text.as_bytes()).map_err(|_| "it is a plan")?)
 }

@@ -43,7 +43,7 @@ fn dropped(reason: &Reason) -> char {
 }
 
 /// The verdicts as letters, with a bar between two lanes.
-pub fn letters(alloc: Global, lanes: &[Row<Verdict>]) -> Result<String, AllocError> {
+pub(crate) fn letters(alloc: Global, lanes: &[Row<Verdict>]) -> Result<String, AllocError> {
     let mut text = String::new(alloc);
     for (number, verdicts) in lanes.iter().enumerate() {
         if number > 0 {

@@ -22,14 +22,20 @@ use std::thread::Threads;
 /// Epochs with many instances, stops and quotas.
 const EPOCHS: [&str; 4] = [
     "epoch = [{ instances = [{ lane = 0 }, { lane = 1 }, { lane = 2 }, { lane = 3 }] }]",
-    "epoch = [{ instances = [{ lane = 0, stop = 5 }, { lane = 1 }, { lane = 2, quota = 3 }] }, { instances = [{ lane = 2 }, { lane = 3 }, { lane = 0 }] }]",
-    "epoch = [{ instances = [{ lane = 3, stop = 0 }, { lane = 2, stop = 1 }, { lane = 1, stop = 2 }, { lane = 0, stop = 3 }] }, { instances = [{ lane = 0 }, { lane = 1, quota = 0 }] }, { instances = [{ lane = 3 }, { lane = 1 }] }]",
-    "epoch = [{ instances = [{ lane = 0, quota = 2, stop = 4 }, { lane = 1, quota = 4 }] }, { instances = [{ lane = 1, stop = 7 }, { lane = 0 }, { lane = 2 }, { lane = 3 }] }]",
+    "epoch = [{ instances = [{ lane = 0, stop = 5 }, { lane = 1 }, { lane = 2, quota = 3 }] },
+       { instances = [{ lane = 2 }, { lane = 3 }, { lane = 0 }] }]",
+    "epoch = [{ instances = [{ lane = 3, stop = 0 }, { lane = 2, stop = 1 }, { lane = 1, stop = 2 }, { lane = 0, stop = 3 }] },
+       { instances = [{ lane = 0 }, { lane = 1, quota = 0 }] },
+       { instances = [{ lane = 3 }, { lane = 1 }] }]",
+    "epoch = [{ instances = [{ lane = 0, quota = 2, stop = 4 }, { lane = 1, quota = 4 }] },
+       { instances = [{ lane = 1, stop = 7 }, { lane = 0 }, { lane = 2 }, { lane = 3 }] }]",
 ];
 
 /// Epochs with sweeps, of which one is stopped.
 const SWEPT: &str =
-    "epoch = [{ instances = [{ lane = 0, stop = 2 }, { lane = 1, stop = 3 }, { lane = 2 }], sweep = true }, { instances = [{ lane = 0 }, { lane = 3 }], sweep = true, sweep_stop = 5 }, { instances = [{ lane = 1 }], sweep = true }]";
+    "epoch = [{ instances = [{ lane = 0, stop = 2 }, { lane = 1, stop = 3 }, { lane = 2 }], sweep = true },
+       { instances = [{ lane = 0 }, { lane = 3 }], sweep = true, sweep_stop = 5 },
+       { instances = [{ lane = 1 }], sweep = true }]";
 
 /// A function over four lanes.
 struct Load {
