@@ -44,11 +44,11 @@ best() {
         END { print clock["proved"], clock["plain"], processor["proved"], processor["plain"] }'
 }
 
-# What both programs print on these words.
+# What both programs print on these words; their times are left out.
 same() {
     local said expected
-    said=$("$1" "${@:3}")
-    expected=$("$2" "${@:3}")
+    said=$("$1" "${@:3}" 2> >(grep -v '^nanoseconds ' >&2))
+    expected=$("$2" "${@:3}" 2> >(grep -v '^nanoseconds ' >&2))
     if [ "$said" != "$expected" ]; then
         echo "store.sh: '$said' and '$expected' differ" >&2
         exit 1
@@ -64,20 +64,33 @@ for accesses in 10000 100000 1000000; do
     printf '%10d  %8.3f %8.3f  %8.3f %8.3f  %s\n' "$accesses" "$clock" "$plain_clock" "$processor" "$plain_processor" "${said##* }"
 done
 
+# The runs of both programs on these words in turn: the least of the times that each says of its accesses alone, in seconds.
+counted() {
+    local proved=$1 plain=$2
+    shift 2
+    for ((run = 0; run < runs; run++)); do
+        echo "proved $("$proved" "$@" 2>&1 >/dev/null)"
+        echo "plain $("$plain" "$@" 2>&1 >/dev/null)"
+    done | awk '{ if (!($1 in least) || $3 < least[$1]) least[$1] = $3 } END { print least["proved"] / 1e9, least["plain"] / 1e9 }'
+}
+
 # As many rounds in all, whatever the threads. A turn is of one access, or of as many looks, and then writes, of one shard's keys.
-# The last columns say how often the time of one thread goes into that of these.
+# The time is that of the accesses, from the first thread's start to the last one's end: what one thread does before and behind them
+# isn't in it. The last columns say how often the time of one thread goes into that of these.
 rounds=2000000
-printf '\n%6s %5s %7s %9s  %17s  %17s\n' '' '' '' '' 'clock' 'one thread over it'
-printf '%6s %5s %7s %9s  %8s %8s  %8s %8s\n' shards turn threads accesses proved mutexes proved mutexes
-for load in '1 1' '64 1' '64 8' '64 32'; do
-    read -r shards turn <<<"$load"
+printf '\n%8s %6s %5s %7s %9s  %17s  %17s\n' '' '' '' '' '' 'accesses alone' 'one thread over it'
+printf '%8s %6s %5s %7s %9s  %8s %8s  %8s %8s\n' keys shards turn threads accesses proved mutexes proved mutexes
+for load in '16384 1 1' '16384 64 1' '16384 64 8' '16384 64 32' '1048576 1 1' '1048576 64 1' '1048576 64 8' '1048576 64 32'; do
+    read -r keys shards turn <<<"$load"
     for count in 1 2 4; do
-        words=("$count" "$shards" $((rounds / count)) "$turn")
+        words=("$count" "$shards" $((rounds / count)) "$turn" "$keys")
         said=$(same "$threads" "$folder/threads_plain" "${words[@]}")
         read -r accesses < <(awk '{ print $2 }' <<<"$said")
-        read -r clock plain_clock _ _ < <(timed "$threads" "$folder/threads_plain" "${words[@]}" | best)
+        read -r clock plain_clock < <(counted "$threads" "$folder/threads_plain" "${words[@]}")
         if [ "$count" = 1 ]; then one=$clock plain_one=$plain_clock; fi
-        awk -v shards="$shards" -v turn="$turn" -v threads="$count" -v accesses="$accesses" -v clock="$clock" -v plain="$plain_clock" -v one="$one" -v plain_one="$plain_one" \
-            'BEGIN { printf "%6d %5d %7d %9d  %8.3f %8.3f  %8.2f %8.2f\n", shards, turn, threads, accesses, clock, plain, one / clock, plain_one / plain }'
+        awk -v keys="$keys" -v shards="$shards" -v turn="$turn" -v threads="$count" -v accesses="$accesses" -v clock="$clock" \
+            -v plain="$plain_clock" -v one="$one" -v plain_one="$plain_one" \
+            'BEGIN { printf "%8d %6d %5d %7d %9d  %8.3f %8.3f  %8.2f %8.2f\n", keys, shards, turn, threads, accesses, clock, plain,
+                one / clock, plain_one / plain }'
     done
 done

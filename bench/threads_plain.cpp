@@ -1,6 +1,7 @@
 // What crates/slnf_store_threads does, without proofs: the same rounds of accesses by std's threads over shards of std's hash
 // map, each under a mutex of its own, and the same checksum.
 #include <algorithm>
+#include <chrono>
 #include <cstdint>
 #include <cstdio>
 #include <cstdlib>
@@ -142,14 +143,13 @@ static u64 with_reply(u64 sum, const Reply& reply) {
 }
 
 // The rounds of one thread, on keys of its own.
-static u64 work(Store& store, u64 caller, u64 callers, u64 rounds) {
-    u64 keys = 16384 / callers;
+static u64 work(Store& store, u64 caller, u64 keys, u64 rounds) {
     u64 state = caller;
     u64 clock = 0;
     u64 sum = 0;
     for (u64 item = 0; item < rounds; item++) {
         u64 word = next_word(state);
-        u128 key = (u128(0x0411) << 112) + (u128(caller) << 16) + (word >> 32) % keys;
+        u128 key = (u128(0x0411) << 112) + (u128(caller) << 32) + (word >> 32) % keys;
         Reply looked = store.access(caller, item, clock, {Kind::Read, key, 0, 0});
         sum = with_reply(sum, looked);
         if (auto request = written(word, key, looked)) sum = with_reply(sum, store.access(caller, item, clock, *request));
@@ -158,8 +158,7 @@ static u64 work(Store& store, u64 caller, u64 callers, u64 rounds) {
 }
 
 // The same with keys of one shard at a time, which are looked up in one turn and written in a second.
-static u64 work_in_turns(Store& store, u64 caller, u64 callers, u64 rounds, u64 shards, u64 turn) {
-    u64 keys = 16384 / callers;
+static u64 work_in_turns(Store& store, u64 caller, u64 keys, u64 rounds, u64 shards, u64 turn) {
     u64 state = caller;
     u64 clock = 0;
     u64 sum = 0;
@@ -170,7 +169,7 @@ static u64 work_in_turns(Store& store, u64 caller, u64 callers, u64 rounds, u64 
         u64 left = next_word(state) % shards;
         for (u64 i = 0; i < turn; i++) {
             drawn[i] = next_word(state);
-            u128 key = (u128(0x0411) << 112) + (u128(caller) << 16) + left + u128((drawn[i] >> 32) % (keys / shards)) * shards;
+            u128 key = (u128(0x0411) << 112) + (u128(caller) << 32) + left + u128((drawn[i] >> 32) % (keys / shards)) * shards;
             requests[i] = {Kind::Read, key, 0, 0};
         }
         store.access_many(caller, item, clock, requests, replies, turn);
@@ -188,17 +187,19 @@ static u64 work_in_turns(Store& store, u64 caller, u64 callers, u64 rounds, u64 
 int main(int count, char** words) {
     auto word = [&](int place, u64 otherwise) { return count > place ? std::strtoull(words[place], nullptr, 10) : otherwise; };
     u64 callers = word(1, 4), shards = word(2, 8), rounds = word(3, 1000), turn = word(4, 1);
+    u64 keys = word(5, 16384) / callers;
     Store store(static_cast<std::uint32_t>(shards));
     std::vector<u64> sums(callers);
     std::vector<std::thread> threads;
+    auto start = std::chrono::steady_clock::now();
     for (u64 caller = 0; caller < callers; caller++)
         threads.emplace_back([&, caller] {
-            sums[caller] = turn == 1 ? work(store, caller, callers, rounds) : work_in_turns(store, caller, callers, rounds, shards, turn);
+            sums[caller] = turn == 1 ? work(store, caller, keys, rounds) : work_in_turns(store, caller, keys, rounds, shards, turn);
         });
+    for (std::thread& thread : threads) thread.join();
+    auto time = std::chrono::duration_cast<std::chrono::nanoseconds>(std::chrono::steady_clock::now() - start);
     u64 sum = 0;
-    for (u64 caller = 0; caller < callers; caller++) {
-        threads[caller].join();
-        sum += sums[caller];
-    }
+    for (u64 one : sums) sum += one;
+    std::fprintf(stderr, "nanoseconds %lld\n", static_cast<long long>(time.count()));
     std::printf("accesses %zu checksum %016llx\n", store.entries(), static_cast<unsigned long long>(sum));
 }

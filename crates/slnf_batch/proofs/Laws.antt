@@ -69,7 +69,7 @@ had_or_took key keys (first ∷ firsts) h =
         ]
 
 -- where there is room, a first key joins that stands among no key of the batch
-joins_new : (limit size : ℕ) (keys : List ℕ) (key : Option ℕ) → size < limit →
+pub joins_new : (limit size : ℕ) (keys : List ℕ) (key : Option ℕ) → size < limit →
     joins limit size keys key ≡ not (is_among key keys)
 joins_new limit size keys key room = ap (λ b. b && not (is_among key keys)) (lt-ltb size limit room)
 

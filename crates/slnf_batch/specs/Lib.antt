@@ -1,2 +1,3 @@
+pub mod Cut
 pub mod Firsts
 pub mod Order

@@ -15,7 +15,7 @@ pub fn joins(firsts: &[Option<Key>], next: Option<Key>) -> bool
 }
 
 /// Whether a first key stands among these.
-fn is_repeated(first: Option<Key>, earlier: &[Option<Key>]) -> bool
+pub(crate) fn is_repeated(first: Option<Key>, earlier: &[Option<Key>]) -> bool
     ensures { IsTrue result ↔ StandsAmong first earlier.now }
 {
     first.is_some() && earlier.contains(&first)

@@ -47,7 +47,7 @@ fn in_single_accesses<R: Wait>(
     ensures pass { IsCaller store.now pass.new }
     ensures sum { IfOk result (λ sum. sum ≡ with_replies 0 (own_entries pass.new)) }
 {
-    let mut draws = Draws::of(pass.incarnation(), load.callers);
+    let mut draws = Draws::of(pass.incarnation(), load);
     let mut sum = 0;
     for item in 0..load.rounds {
         sum = round(rt, store, pass, u64::from(item), draws.next(), sum)?;
@@ -67,7 +67,7 @@ fn in_turns<R: Wait>(
     ensures pass { IsCaller store.now pass.new }
     ensures sum { IfOk result (λ sum. sum ≡ with_replies 0 (own_entries pass.new)) }
 {
-    let mut draws = Draws::of(pass.incarnation(), load.callers);
+    let mut draws = Draws::of(pass.incarnation(), load);
     let mut sum = 0;
     for item in 0..load.rounds / load.turn {
         sum = round_of_turns(rt, store, pass, u64::from(item), &mut draws, load, sum)?;

@@ -1,11 +1,9 @@
 ghost use Rattle.std.specs.Prelude.{◌<◌, ◌≤◌};
 
+use crate::loads::Load;
 use rand_core::{Rng, SeedableRng};
 use rand_xoshiro::SplitMix64;
 use slnf_access::{Key, Reply, Request, Value};
-
-/// How many keys there are, those of all callers together.
-const KEYS: u32 = 16_384;
 
 /// The keys' numbers count up from here: those of UDP clients.
 const FIRST_KEY: u128 = 0x0411 << 112;
@@ -27,14 +25,12 @@ pub struct Draw {
 }
 
 impl Draws {
-    /// The rounds of a caller among so many.
-    pub(crate) fn of(caller: u64, callers: u32) -> Draws
-        requires { (0 < callers) × (callers ≤ 64) }
-    {
+    /// The rounds of a caller of this load.
+    pub(crate) fn of(caller: u64, load: Load) -> Draws {
         Draws {
             words: SplitMix64::seed_from_u64(caller),
             caller,
-            keys: u64::from(KEYS / callers),
+            keys: u64::from(load.keys / load.callers),
         }
     }
 
@@ -42,7 +38,7 @@ impl Draws {
     pub(crate) fn next(&mut self) -> Draw {
         let word = self.words.next_u64();
         let place = (word >> 32) % self.keys;
-        let key = FIRST_KEY + (u128::from(self.caller) << 16) + u128::from(place);
+        let key = FIRST_KEY + (u128::from(self.caller) << 32) + u128::from(place);
         Draw {
             key: Key(key),
             word,
@@ -65,7 +61,7 @@ impl Draws {
         let word = self.words.next_u64();
         let shards = u64::from(shards);
         let place = (word >> 32) % (self.keys / shards);
-        let first = FIRST_KEY + (u128::from(self.caller) << 16) + u128::from(left);
+        let first = FIRST_KEY + (u128::from(self.caller) << 32) + u128::from(left);
         let key = first + u128::from(place) * u128::from(shards);
         Draw {
             key: Key(key),

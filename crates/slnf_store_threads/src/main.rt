@@ -9,11 +9,14 @@ mod runs;
 mod sums;
 mod turns;
 
-use crate::loads::{Load, MOST_CALLERS, MOST_OF_TURN, MOST_SHARDS};
+use crate::loads::{FEWEST_KEYS, Load, MOST_CALLERS, MOST_OF_TURN, MOST_SHARDS};
 use crate::runs::{count, run};
 use anyhow::{Context, Result, bail};
 use std::env;
 use std::hash::RandomState;
+
+/// The keys where no word says how many.
+const KEYS: u32 = 16_384;
 
 /// What is run where no words say otherwise.
 const SMALL: Load = Load {
@@ -21,6 +24,7 @@ const SMALL: Load = Load {
     shards: 8,
     rounds: 1000,
     turn: 1,
+    keys: KEYS,
 };
 
 fn main(rt: HostRuntime) -> Result<()> {
@@ -29,6 +33,8 @@ fn main(rt: HostRuntime) -> Result<()> {
     let ran = run(&rt, rt.alloc(), RandomState::new(&rt)?, load)?;
     let sum = ran.sum;
     let accesses = count(ran.histories.as_slice());
+    let nanoseconds = ran.time.as_nanos();
+    eprintln!(rt; "nanoseconds {nanoseconds}")?;
     println!(rt; "accesses {accesses} checksum {sum:016x}")?;
     Ok(())
 }
@@ -37,16 +43,24 @@ fn load_of_words(words: &[String]) -> Result<Load> {
     match words {
         [] => Ok(SMALL),
         [callers, shards, rounds] => {
-            load_of(number(callers)?, number(shards)?, number(rounds)?, 1)
+            load_of(number(callers)?, number(shards)?, number(rounds)?, 1, KEYS)
         }
         [callers, shards, rounds, turn] => load_of(
             number(callers)?,
             number(shards)?,
             number(rounds)?,
             number(turn)?,
+            KEYS,
+        ),
+        [callers, shards, rounds, turn, keys] => load_of(
+            number(callers)?,
+            number(shards)?,
+            number(rounds)?,
+            number(turn)?,
+            number(keys)?,
         ),
         _ => bail!(
-            "no words, or three or four: the threads, the shards, each thread's rounds, the accesses of a turn"
+            "no words, or three to five: the threads, the shards, each thread's rounds, the accesses of a turn, the keys"
         ),
     }
 }
@@ -55,7 +69,7 @@ fn number(word: &String) -> Result<u32> {
     word.as_str().parse::<u32>().context("a number")
 }
 
-fn load_of(callers: u32, shards: u32, rounds: u32, turn: u32) -> Result<Load> {
+fn load_of(callers: u32, shards: u32, rounds: u32, turn: u32, keys: u32) -> Result<Load> {
     if callers == 0 || callers > MOST_CALLERS {
         bail!("1 to 64 threads");
     }
@@ -65,10 +79,14 @@ fn load_of(callers: u32, shards: u32, rounds: u32, turn: u32) -> Result<Load> {
     if turn == 0 || turn > MOST_OF_TURN {
         bail!("1 to 32 accesses of a turn");
     }
+    if keys < FEWEST_KEYS {
+        bail!("at least 4,096 keys");
+    }
     Ok(Load {
         callers,
         shards,
         rounds,
         turn,
+        keys,
     })
 }

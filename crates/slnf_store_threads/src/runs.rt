@@ -15,12 +15,14 @@ use std::hash::RandomState;
 use std::sync::Wait;
 use std::thread;
 use std::thread::Threads;
+use std::time::{Clock, Duration, Instant};
 
-/// The shards' histories, and the sum of the callers' checksums.
+/// The shards' histories, the sum of the callers' checksums, and how long the callers took.
 #[derive(Drop)]
 pub struct Ran {
     pub histories: Vec<Vec<Entry>>,
     pub sum: u64,
+    pub time: Duration,
 }
 
 /// A pass for each caller.
@@ -86,8 +88,8 @@ fn joined(store: &Store, root: &mut StorePass, reports: Vec<Report>) -> Result<u
     Ok(all)
 }
 
-/// Runs the load on a store of its own.
-pub fn run<R: Threads + Wait + Sync>(
+/// Runs the load on a store of its own. The time begins when the store is made, and ends before its histories are taken.
+pub fn run<R: Threads + Wait + Sync + Clock>(
     rt: &R,
     alloc: Global,
     state: RandomState,
@@ -98,10 +100,16 @@ pub fn run<R: Threads + Wait + Sync>(
 {
     let (store, mut root) = Store::make(alloc, state, load.shards)?;
     let passes = passes(alloc, &store, &mut root, load.callers)?;
+    let start = Instant::now(rt)?;
     let reports = side_by_side(rt, &store, load, passes)?;
+    let time = start.elapsed(rt)?;
     let sum = joined(&store, &mut root, reports)?;
     let histories = store.close(alloc, root)?;
-    Ok(Ran { histories, sum })
+    Ok(Ran {
+        histories,
+        sum,
+        time,
+    })
 }
 
 /// How many accesses there are in all.
