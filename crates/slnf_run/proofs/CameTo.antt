@@ -11,7 +11,7 @@ use Rattle.slnf_base.specs.declared.packets.Verdict.{Verdict}
 use Rattle.slnf_access.specs.declared.requests.Entry.{Entry}
 use Rattle.slnf_access.specs.Map.{key_of, CanReply, Cells, empty, map_after, IsLegalFrom}
 use Rattle.slnf_access.specs.Machines.{Machine, Stand, Flies, Ends, stand_step, stand_after, IsPath, decided_at}
-use Rattle.slnf_access.proofs.Laws.{can_reply_to, path-front, stand_after-append}
+use Rattle.slnf_access.proofs.Laws.{can_reply_to, path-front}
 use Rattle.slnf_run.specs.Scene.{Scene, is_of, own_of, stand_of}
 use Rattle.slnf_run.specs.Visits.{Decision, newly, decided_by, decision_of, decision_at}
 use Rattle.slnf_run.specs.Steady.{IsSteady}
@@ -23,7 +23,7 @@ use Rattle.slnf_run.proofs.Splits.{IsSplit, split_at, slice_get-split}
 use Rattle.slnf_run.proofs.DecidedOnce.{IsDecision, is_decision, stand_of-own, steady_step}
 use Rattle.slnf_run.proofs.NextAccess.{stand_after-ended}
 use Rattle.slnf_run.proofs.Counting.{prefix_induction}
-use Rattle.slnf_run.proofs.Runs.{own_in_part, paths_of_run}
+use Rattle.slnf_run.proofs.Runs.{own_in_part, paths_of_run, counted_ended}
 use Rattle.slnf_run.specs.OneBox.{IsSound, EndsWell, CanMake, IsOn, IsGiven, IsDecided}
 use Rattle.slnf_run.proofs.OfferRows.{has_item}
 use Rattle.slnf_run.proofs.LanePosts.{actor_at}
@@ -138,21 +138,6 @@ can_reply cells (e ∷ es) h = (
 counted_front : (stopped : Bool) (part : List Entry) → (rest : List Entry) × (part ≡ counted stopped part ++ rest)
 counted_front false part = ([], sym (append-nil part))
 counted_front true part = (drop (length part - 1) part, sym (take-append-drop (length part - 1) part))
-
--- what is reached by the entries that count is reached by all
-counted_ended : {F : Type 0} (m : Machine F) (st : Stand F) (k : ℕ) (stopped : Bool) (part : List Entry)
-    (v : Option Verdict) → stand_after m st (of_item k (counted stopped part)) ≡ Ends v →
-    stand_after m st (of_item k part) ≡ Ends v
-counted_ended m st k false part v h = h
-counted_ended m st k true part v h =
-    let n : ℕ = length part - 1 in
-    let whole : of_item k part ≡ of_item k (take n part) ++ of_item k (drop n part) =
-    ap (of_item k) (sym (take-append-drop n part))
-    ∙ filter-append (λ e. e.item == k) (take n part) (drop n part) in
-    ap (stand_after m st) whole
-    ∙ stand_after-append m st (of_item k (take n part)) (of_item k (drop n part))
-    ∙ ap (λ now. stand_after m now (of_item k (drop n part))) h
-    ∙ stand_after-ended m v (of_item k (drop n part))
 
 -- What is written of a packet that an incarnation took.
 module _ {F A : Type 0} (s : Setting F A) (j : List Entry) (sound : IsSound s) (run : IsRun s j) where

@@ -1,8 +1,8 @@
 -- A taken packet that has come to no end is in the batch in hand of its stopped incarnation.
-use Rattle.std.proofs.Common.{◌≡◌, inl, inr, ℕ, ◌+◌, ◌-◌, ◌≤◌, Bool, true, false, cond, ◌||◌, ◌==◌, nat_le, Option, Some, None, List, [], ◌∷◌, ◌++◌, length, take, filter, slice_get, refl, ap, ap₂, sym, ◌∙◌, subst, eq-eqb, ne_eqb, arith}
+use Rattle.std.proofs.Common.{◌≡◌, inl, inr, ℕ, ◌+◌, ◌-◌, ◌≤◌, Bool, true, false, cond, ◌||◌, ◌==◌, nat_le, Option, Some, None, List, [], ◌∷◌, ◌++◌, length, take, filter, slice_get, refl, ap, sym, ◌∙◌, subst, arith}
 use Rattle.std.proofs.Math.Seq.{take-append_seam}
 use Rattle.std.specs.List.{range_with_len}
-use Rattle.std.proofs.lemmas.Bool.{eqb-true, cases_eq, cond-true, cond-false, leb-true}
+use Rattle.std.proofs.lemmas.Bool.{eqb-true, leb-true}
 use Rattle.std.proofs.lemmas.Bool.Decides.{leb_tells}
 use Rattle.std.proofs.lemmas.List.{length_push}
 use Rattle.std.proofs.lemmas.Option.{same_Some}
@@ -16,6 +16,7 @@ use Rattle.slnf_run.specs.Run.{IsOffered, EarlierEnded, IsDone, IsRun}
 use Rattle.slnf_run.proofs.Runs.{own_in_part}
 use Rattle.slnf_run.specs.OneBox.{WasInHand}
 use Rattle.slnf_run.proofs.OfferRows.{has_item, Rises, rises_batched}
+use Rattle.slnf_run.proofs.Parting.{IsSplit, split_of_part}
 use Rattle.slnf_run.proofs.Taking.{all_ended_at, earlier_ended_at}
 use Rattle.slnf_run.proofs.TakenRows.{key_first, offered_count, offers_on_lane}
 
@@ -85,75 +86,6 @@ last_split (e ∷ f ∷ es) l h =
     let r : (front : List Entry) × (f ∷ es ≡ front ++ l ∷ []) = last_split (f ∷ es) l h in
     (e ∷ r.0, ap (λ xs. e ∷ xs) r.1)
 
--- Where an entry of a part stands in the list: behind these entries of its incarnation.
-record IsPartSplit (incarnation : ℕ) (m own : List Entry) (e : Entry) : Type 0 where
-  before : List Entry
-  later : List Entry
-  whole : m ≡ before ++ e ∷ later
-  part : part_of incarnation before ≡ own
-  mine : e.incarnation ≡ incarnation
-
-cons_parts : (x y : Entry) (xs ys : List Entry) → x ∷ xs ≡ y ∷ ys → (x ≡ y) × (xs ≡ ys)
-cons_parts x y xs ys h = (cc, cc)
-
-part_of-own : (incarnation : ℕ) (e : Entry) (es : List Entry) → e.incarnation ≡ incarnation →
-    part_of incarnation (e ∷ es) ≡ e ∷ part_of incarnation es
-part_of-own incarnation e es h = cond-true (e.incarnation == incarnation) (e ∷ part_of incarnation es)
-    (part_of incarnation es) (eq-eqb e.incarnation incarnation h)
-
-part_of-other : (incarnation : ℕ) (e : Entry) (es : List Entry) → (e.incarnation ≡ incarnation → ⊥) →
-    part_of incarnation (e ∷ es) ≡ part_of incarnation es
-part_of-other incarnation e es h = cond-false (e.incarnation == incarnation) (e ∷ part_of incarnation es)
-    (part_of incarnation es) (ne_eqb e.incarnation incarnation h)
-
-split_other : (incarnation : ℕ) (f : Entry) (m own : List Entry) (e : Entry) → (f.incarnation ≡ incarnation → ⊥) →
-    IsPartSplit incarnation m own e → IsPartSplit incarnation (f ∷ m) own e
-split_other incarnation f m own e n h = record {
-  before = f ∷ h.before;
-  later = h.later;
-  whole = ap (λ l. f ∷ l) h.whole;
-  part = part_of-other incarnation f h.before n ∙ h.part;
-  mine = h.mine;
-}
-
--- each entry of a part stands so
-split_of_part : (incarnation : ℕ) (m own rest : List Entry) (e : Entry) → part_of incarnation m ≡ own ++ e ∷ rest →
-    IsPartSplit incarnation m own e
-split_of_part incarnation [] [] rest e h = absurd (cc)
-split_of_part incarnation [] (x ∷ own) rest e h = absurd (cc)
-split_of_part incarnation (f ∷ m) [] rest e h =
-    elim (cases_eq f.incarnation incarnation) [
-      | inr n ↦ split_other incarnation f m [] e n
-          (split_of_part incarnation m [] rest e (sym (part_of-other incarnation f m n) ∙ h))
-      | inl mine ↦
-          let q : (f ≡ e) × (part_of incarnation m ≡ rest) =
-          cons_parts f e (part_of incarnation m) rest (sym (part_of-own incarnation f m mine) ∙ h) in
-          record {
-            before = [];
-            later = m;
-            whole = ap (λ x. x ∷ m) q.0;
-            part = refl;
-            mine =
-                ap (λ x. x.incarnation) (sym q.0) ∙ mine;
-          }
-    ]
-split_of_part incarnation (f ∷ m) (x ∷ own) rest e h =
-    elim (cases_eq f.incarnation incarnation) [
-      | inr n ↦ split_other incarnation f m (x ∷ own) e n
-          (split_of_part incarnation m (x ∷ own) rest e (sym (part_of-other incarnation f m n) ∙ h))
-      | inl mine ↦
-          let q : (f ≡ x) × (part_of incarnation m ≡ own ++ e ∷ rest) =
-          cons_parts f x (part_of incarnation m) (own ++ e ∷ rest) (sym (part_of-own incarnation f m mine) ∙ h) in
-          let k : IsPartSplit incarnation m own e = split_of_part incarnation m own rest e q.1 in
-          record {
-            before = f ∷ k.before;
-            later = k.later;
-            whole = ap (λ l. f ∷ l) k.whole;
-            part = part_of-own incarnation f k.before mine ∙ ap₂ (λ y l. y ∷ l) q.0 k.part;
-            mine = k.mine;
-          }
-    ]
-
 module _ {F A : Type 0} (s : Setting F A) (j : List Entry) (run : IsRun s j) where
   -- a taken packet that flies at the end is its stopped instance's
   flies_stopped : (i k : ℕ) (post : Post) (f : F) → slice_get (posts_of s j) i ≡ Some post →
@@ -185,7 +117,7 @@ module _ {F A : Type 0} (s : Setting F A) (j : List Entry) (run : IsRun s j) whe
       elim (leb_tells (batch_of l.item offers) (batch_of k offers)) [
         | inl at_most ↦ at_most.1
         | inr above ↦
-            let w : IsPartSplit i j front l = split_of_part i j front [] l split in
+            let w : IsSplit i j front l = split_of_part i j front [] l split in
             let earlier : EarlierEnded s i w.before (batch_of l.item offers) offers =
             subst (λ n. EarlierEnded s n w.before (batch_of l.item (offers_at s n post)) (offers_at s n post)) w.mine
             (run.by_batch w.before w.later l post w.whole (ap (slice_get (posts_of s j)) w.mine ∙ posted)) in

@@ -141,7 +141,7 @@ was_decided {F = F} s es i k first v steady begins unmade now =
             stay same (inr r) = inr (r.0, r.1, same ∙ r.2, r.3)
 
 -- what is reached by the entries that count is reached by all
-counted_ended : {F : Type 0} (m : Machine F) (st : Stand F) (k : ℕ) (stopped : Bool) (part : List Entry)
+pub counted_ended : {F : Type 0} (m : Machine F) (st : Stand F) (k : ℕ) (stopped : Bool) (part : List Entry)
     (v : Option Verdict) → stand_after m st (of_item k (counted stopped part)) ≡ Ends v →
     stand_after m st (of_item k part) ≡ Ends v
 counted_ended m st k false part v h = h
