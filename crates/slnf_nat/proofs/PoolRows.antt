@@ -121,7 +121,7 @@ abbrev back_begins : ℕ → ℕ → Stand NatFlight
 back_begins zero item = Flies (Out Look 0 (going five))
 back_begins (suc i) item = Flies (In LookPort answer)
 
-abbrev back : List Entry
+abbrev pub back : List Entry
 back =
     entry 1 0 0 (Read (flow five)) Absent
     ∷ entry 2 0 0 (PutIfAbsent (tcp 40001) (claim 0 five)) (Done 2)
@@ -158,7 +158,7 @@ back_content = refl
 abbrev race_begins : ℕ → ℕ → Stand NatFlight
 race_begins i item = Flies (Out Look i (going five))
 
-abbrev race : List Entry
+abbrev pub race : List Entry
 race =
     entry 1 0 0 (Read (flow five)) Absent
     ∷ entry 2 1 0 (Read (flow five)) Absent
@@ -195,7 +195,7 @@ race_unvisited = refl
 
 -- ---- the same with one port: the loser reads its flow at last, after the record or before it
 
-abbrev late : List Entry
+abbrev pub late : List Entry
 late =
     entry 1 0 0 (Read (flow five)) Absent
     ∷ entry 2 1 0 (Read (flow five)) Absent
@@ -216,7 +216,7 @@ unfolding flow_key_number port_key_number single_number
     key_number pair_number flow_to_number claim_number claim_of pair_at pair_of flow_to_of
 late_ends = ((refl, (refl, (refl, tt))), refl)
 
-abbrev early : List Entry
+abbrev pub early : List Entry
 early =
     entry 1 0 0 (Read (flow five)) Absent
     ∷ entry 2 1 0 (Read (flow five)) Absent
@@ -245,7 +245,7 @@ sweep_begins zero item = Flies (Out Look 0 (going five))
 sweep_begins (suc zero) item = Flies (Out Look 1 (going six))
 sweep_begins (suc (suc i)) item = sweep_item two 1 item
 
-abbrev swept : List Entry
+abbrev pub swept : List Entry
 swept =
     entry 1 0 0 (Read (flow five)) Absent
     ∷ entry 2 0 0 (PutIfAbsent (tcp 40001) (claim 0 five)) (Done 2)

@@ -5,7 +5,7 @@ use Rattle.slnf_base.specs.declared.packets.Change.TheVariants.{Source}
 use Rattle.slnf_base.specs.declared.packets.Reason.TheVariants.{NoPort, Neither}
 use Rattle.slnf_base.specs.declared.packets.Verdict.TheVariants.{Emit, Dropped, Lost}
 use Rattle.slnf_access.specs.declared.requests.Entry.{Entry}
-use Rattle.slnf_access.specs.declared.requests.Request.TheVariants.{Read, PutIfAbsent, DeleteIf}
+use Rattle.slnf_access.specs.declared.requests.Request.TheVariants.{Read, PutIfAbsent}
 use Rattle.slnf_access.specs.declared.requests.Reply.TheVariants.{Done, Found, Absent}
 use Rattle.slnf_keys.specs.Layout.{pair_number, pair_at, pair_of, key_number, single_number}
 use Rattle.slnf_keys.specs.Keys.{flow_key_number, port_key_number}
@@ -22,6 +22,7 @@ use Rattle.slnf_setting.proofs.NatRows.{wide, narrow}
 use Rattle.slnf_flight.specs.declared.lanes.Taken.TheVariants.{Seen}
 use Rattle.slnf_flight.specs.declared.lanes.Lane.{Lane}
 use Rattle.slnf_box.specs.Pools.{nat_of}
+use Rattle.slnf_nat.proofs.PoolRows.{race, late, early}
 use Rattle.slnf_flight.specs.PlanSetting.{setting_of}
 use Rattle.slnf_setting.proofs.PlanSchedules.{run_of_schedule}
 use Rattle.slnf_setting.proofs.RowParts.{lane_of, epoch_of, on_lane, with_stop, entry, plan_of}
@@ -36,16 +37,7 @@ abbrev race_lanes : List Lane
 race_lanes = lane_of (Seen packet_f ∷ []) refl ∷ lane_of (Seen packet_f ∷ []) refl ∷ []
 
 abbrev race_journal : List Entry
-race_journal =
-    entry 1 0 0 (Read (flow five)) Absent
-    ∷ entry 2 1 0 (Read (flow five)) Absent
-    ∷ entry 3 0 0 (PutIfAbsent (tcp 40001) (claim 0 five)) (Done 3)
-    ∷ entry 4 1 0 (PutIfAbsent (tcp 40001) (claim 1 five)) (Found (claim 0 five) 3)
-    ∷ entry 5 0 0 (PutIfAbsent (flow five) (to 40001)) (Done 5)
-    ∷ entry 6 1 0 (PutIfAbsent (tcp 40002) (claim 1 five)) (Done 6)
-    ∷ entry 7 1 0 (PutIfAbsent (flow five) (to 40002)) (Found (to 40001) 5)
-    ∷ entry 8 1 0 (DeleteIf (tcp 40002) 6) (Done 8)
-    ∷ []
+race_journal = race
 
 race_scheduled : IsScheduled (setting_of race_plan race_lanes)
     (usual_way (setting_of race_plan race_lanes).eras) race_journal
@@ -188,14 +180,7 @@ abbrev twice_lanes : List Lane
 twice_lanes = lane_of (Seen packet_f ∷ []) refl ∷ lane_of (Seen packet_f ∷ []) refl ∷ []
 
 abbrev twice_journal : List Entry
-twice_journal =
-    entry 1 0 0 (Read (flow five)) Absent
-    ∷ entry 2 1 0 (Read (flow five)) Absent
-    ∷ entry 3 0 0 (PutIfAbsent (tcp 40000) (claim 0 five)) (Done 3)
-    ∷ entry 4 1 0 (PutIfAbsent (tcp 40000) (claim 1 five)) (Found (claim 0 five) 3)
-    ∷ entry 5 0 0 (PutIfAbsent (flow five) (to 40000)) (Done 5)
-    ∷ entry 6 1 0 (Read (flow five)) (Found (to 40000) 5)
-    ∷ []
+twice_journal = late
 
 twice_scheduled : IsScheduled (setting_of twice_plan twice_lanes)
     (usual_way (setting_of twice_plan twice_lanes).eras) twice_journal
@@ -221,14 +206,7 @@ abbrev starved_lanes : List Lane
 starved_lanes = lane_of (Seen packet_f ∷ []) refl ∷ lane_of (Seen packet_f ∷ []) refl ∷ []
 
 abbrev starved_journal : List Entry
-starved_journal =
-    entry 1 0 0 (Read (flow five)) Absent
-    ∷ entry 2 1 0 (Read (flow five)) Absent
-    ∷ entry 3 0 0 (PutIfAbsent (tcp 40000) (claim 0 five)) (Done 3)
-    ∷ entry 4 1 0 (PutIfAbsent (tcp 40000) (claim 1 five)) (Found (claim 0 five) 3)
-    ∷ entry 5 1 0 (Read (flow five)) Absent
-    ∷ entry 6 0 0 (PutIfAbsent (flow five) (to 40000)) (Done 6)
-    ∷ []
+starved_journal = early
 
 starved_scheduled : IsScheduled (setting_of starved_plan starved_lanes)
     (usual_way (setting_of starved_plan starved_lanes).eras) starved_journal

@@ -10,8 +10,6 @@ use Rattle.slnf_base.specs.declared.plans.Pool.{Pool}
 use Rattle.slnf_access.specs.declared.requests.Key.{Key}
 use Rattle.slnf_access.specs.declared.requests.Value.{Value}
 use Rattle.slnf_access.specs.declared.requests.Entry.{Entry}
-use Rattle.slnf_access.specs.declared.requests.Request.TheVariants.{Read, PutIfAbsent, DeleteIf}
-use Rattle.slnf_access.specs.declared.requests.Reply.TheVariants.{Done, Found, Absent}
 use Rattle.slnf_access.specs.Machines.{Flies, Ends}
 use Rattle.slnf_keys.specs.Layout.{pair_number, pair_at, pair_of, key_number, single_number}
 use Rattle.slnf_keys.specs.Keys.{flow_key_number, port_key_number}
@@ -27,12 +25,13 @@ use Rattle.slnf_nat.specs.declared.flights.OutState.TheVariants.{Look}
 use Rattle.slnf_nat.specs.Flights.{SweepPort, Out, Sweep}
 use Rattle.slnf_nat.specs.Machine.{flow_key, port_key}
 use Rattle.slnf_nat.specs.LeaksNothing.{LeaksNothing}
+use Rattle.slnf_nat.proofs.PoolRows.{swept}
 use Rattle.slnf_flight.specs.declared.lanes.Taken.TheVariants.{Seen}
 use Rattle.slnf_flight.specs.declared.lanes.Lane.{Lane}
 use Rattle.slnf_flight.specs.declared.flights.AnyFlight.TheVariants.{Nat as NatFlies}
 use Rattle.slnf_flight.specs.PlanSetting.{setting_of}
 use Rattle.slnf_setting.proofs.PlanSchedules.{run_of_schedule}
-use Rattle.slnf_setting.proofs.RowParts.{lane_of, epoch_of, on_lane, with_stop, entry, plan_of}
+use Rattle.slnf_setting.proofs.RowParts.{lane_of, epoch_of, on_lane, with_stop, plan_of}
 use Rattle.slnf_setting.specs.OneBoxOfPlan.{IsOneBoxOfPlan}
 use Rattle.slnf_setting.proofs.PlanWhole.{one_box_of_plan, nothing_leaks_of_plan}
 
@@ -117,9 +116,6 @@ flow inside = record { 0 = flow_key Tcp inside }
 abbrev pub tcp : ℕ → Key
 tcp number = record { 0 = port_key Tcp (port number) }
 
-abbrev udp : ℕ → Key
-udp number = record { 0 = port_key Udp (port number) }
-
 abbrev pub claim : ℕ → Pair → Value
 claim incarnation inside = record { 0 = claim_number (record { incarnation = incarnation; inside = inside }) }
 
@@ -127,19 +123,7 @@ abbrev pub to : ℕ → Value
 to number = record { 0 = flow_to_number (record { outside = port number }) }
 
 abbrev journal : List Entry
-journal =
-    entry 1 0 0 (Read (flow five)) Absent
-    ∷ entry 2 0 0 (PutIfAbsent (tcp 40001) (claim 0 five)) (Done 2)
-    ∷ entry 3 1 0 (Read (flow six)) Absent
-    ∷ entry 4 1 0 (PutIfAbsent (tcp 40000) (claim 1 six)) (Done 4)
-    ∷ entry 5 2 0 (Read (tcp 40000)) (Found (claim 1 six) 4)
-    ∷ entry 6 2 1 (Read (tcp 40001)) (Found (claim 0 five) 2)
-    ∷ entry 7 2 1 (Read (flow five)) Absent
-    ∷ entry 8 2 1 (DeleteIf (tcp 40001) 2) (Done 8)
-    ∷ entry 9 1 0 (PutIfAbsent (flow six) (to 40000)) (Done 9)
-    ∷ entry 10 2 2 (Read (udp 40000)) Absent
-    ∷ entry 11 2 3 (Read (udp 40001)) Absent
-    ∷ []
+journal = swept
 
 -- the schedule makes the journal
 pub scheduled : IsScheduled (setting_of plan lanes) (usual_way (setting_of plan lanes).eras) journal

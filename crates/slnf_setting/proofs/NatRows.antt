@@ -23,6 +23,7 @@ use Rattle.slnf_setting.proofs.NatRow.{pool_to, five, six, server, packet_f, pac
 use Rattle.slnf_flight.specs.declared.lanes.Taken.TheVariants.{Seen}
 use Rattle.slnf_flight.specs.declared.lanes.Lane.{Lane}
 use Rattle.slnf_box.specs.Pools.{nat_of}
+use Rattle.slnf_nat.proofs.PoolRows.{back}
 use Rattle.slnf_flight.specs.PlanSetting.{setting_of}
 use Rattle.slnf_setting.proofs.PlanSchedules.{run_of_schedule}
 use Rattle.slnf_setting.proofs.RowParts.{lane_of, epoch_of, on_lane, entry, plan_of}
@@ -47,13 +48,7 @@ abbrev back_lanes : List Lane
 back_lanes = lane_of (Seen packet_f ∷ []) refl ∷ lane_of (Seen answer ∷ []) refl ∷ []
 
 abbrev back_journal : List Entry
-back_journal =
-    entry 1 0 0 (Read (flow five)) Absent
-    ∷ entry 2 0 0 (PutIfAbsent (tcp 40001) (claim 0 five)) (Done 2)
-    ∷ entry 3 0 0 (PutIfAbsent (flow five) (to 40001)) (Done 3)
-    ∷ entry 4 1 0 (Read (tcp 40001)) (Found (claim 0 five) 2)
-    ∷ entry 5 1 0 (Read (flow five)) (Found (to 40001) 3)
-    ∷ []
+back_journal = back
 
 back_scheduled : IsScheduled (setting_of back_plan back_lanes)
     (usual_way (setting_of back_plan back_lanes).eras) back_journal
