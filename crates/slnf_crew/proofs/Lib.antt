@@ -1,3 +1,4 @@
+pub mod Fitting
 mod Functions
 mod Hired
 pub mod Laws

@@ -1,6 +1,5 @@
 mod Closing
 mod EpochPasses
-mod Fitting
 mod Live
 mod Making
 mod Places

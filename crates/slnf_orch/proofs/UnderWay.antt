@@ -24,11 +24,11 @@ use Rattle.slnf_flight.specs.Flights.{Arrival}
 use Rattle.slnf_flight.specs.Actors.{instance_actor, era_of_epoch, eras_of}
 use Rattle.slnf_flight.specs.Lanes.{packets_on}
 use Rattle.slnf_flight.specs.PlanSetting.{setting_of}
+use Rattle.slnf_crew.proofs.Fitting.{taken_fits}
 use Rattle.slnf_crew.proofs.Laws.{lane_size}
 use Rattle.slnf_orch.specs.Actors.{turns_in, HasHistories}
 use Rattle.slnf_ledger.specs.Ledger.{verdicts_at, places_in, given_from}
 use Rattle.slnf_orch.specs.Passing.{SameBefore, IsReady, IsUnderWay}
-use Rattle.slnf_orch.proofs.Fitting.{taken_fits}
 use Rattle.slnf_ledger.proofs.Giving.{job_there, given_on, given_is}
 use Rattle.slnf_orch.proofs.Making.{made_first, made_next}
 use Rattle.slnf_orch.proofs.Plain.{turns_plain}

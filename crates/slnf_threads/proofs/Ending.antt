@@ -1,11 +1,10 @@
 -- Where a run ends: all epochs have passed, or stamps are said to be spent, which can't be where few accesses were made.
-use Rattle.std.proofs.Common.{◌≡◌, inl, inr, ℕ, zero, suc, ◌+◌, ◌-◌, ◌^◌, ◌<◌, ◌≤◌, List, [], ◌∷◌, ◌++◌, Some, length, map, drop, slice_get, refl, sym, ap, ◌∙◌, subst, arith, append-nil}
+use Rattle.std.proofs.Common.{◌≡◌, inl, inr, ℕ, zero, suc, ◌+◌, ◌-◌, ◌^◌, ◌<◌, ◌≤◌, List, [], ◌∷◌, ◌++◌, Some, length, map, slice_get, refl, sym, ap, ◌∙◌, subst, arith, append-nil}
 use Rattle.std.specs.List.{AllByRecursion, range_with_len}
 use Rattle.std.specs.List.Sorted.{IsPermutation}
 use Rattle.std.proofs.Math.ListN.{drop_of_length-le}
 use Rattle.std.proofs.lemmas.Bool.{cases_lt}
 use Rattle.std.proofs.lemmas.List.Sorted.{IsPermutation-sym}
-use Rattle.std.proofs.lemmas.Option.{slice_get_within}
 use Rattle.slnf_access.specs.declared.requests.Entry.{Entry}
 use Rattle.slnf_access.specs.Order.{InOrder}
 use Rattle.slnf_bucket.specs.Bucket.{last_stamp}
@@ -13,7 +12,7 @@ use Rattle.slnf_merge.specs.Merge.{all_of}
 use Rattle.slnf_merge.proofs.Laws.{IsIn, in_permuted}
 use Rattle.slnf_turns.specs.declared.views.Joined.{Joined}
 use Rattle.slnf_turns.specs.declared.views.View.{View}
-use Rattle.slnf_turns.specs.Views.{kept_of, list_in}
+use Rattle.slnf_turns.specs.Views.{list_in}
 use Rattle.slnf_store.specs.Passes.{entries_of, entries_seen}
 use Rattle.slnf_store.specs.Closes.{history_at, list_of, IsClosed}
 use Rattle.slnf_run.specs.Setting.{Setting}
@@ -22,7 +21,7 @@ use Rattle.slnf_run.specs.Jobs.{job_of}
 use Rattle.slnf_run.proofs.LanePosts.{slice_get_either}
 use Rattle.slnf_threads.specs.Parts.{AreParts, ArePartsSoFar}
 use Rattle.slnf_threads.specs.Passing.{joined_number, HaveWorked, HavePassed, AreAtWork, IsClockOf, HasLateStamp}
-use Rattle.slnf_threads.specs.Worked.{IsWorked, HasWorked}
+use Rattle.slnf_threads.specs.Worked.{IsWorked}
 use Rattle.slnf_threads.proofs.Members.{in_left, in_right, all_in, all_from}
 use Rattle.slnf_threads.proofs.Passing.{kept_none}
 use Rattle.slnf_threads.proofs.Told.{from_list}

@@ -1,5 +1,5 @@
 -- The root behind an epoch: its clock, and late stamps that its passes keep.
-use Rattle.std.proofs.Common.{◌≡◌, ◌⊎◌, inl, inr, ℕ, zero, suc, ◌+◌, ◌-◌, ◌^◌, ◌<◌, ◌≤◌, max, Some, Result, Ok, Err, List, [], ◌∷◌, ◌++◌, length, map, slice_get, option_map, refl, sym, ap, ◌∙◌, subst, arith}
+use Rattle.std.proofs.Common.{◌≡◌, ◌⊎◌, inl, inr, ℕ, zero, suc, ◌+◌, ◌-◌, ◌^◌, ◌≤◌, max, Some, Result, Ok, Err, List, [], ◌∷◌, ◌++◌, length, map, slice_get, option_map, refl, ap, ◌∙◌, subst, arith}
 use Rattle.std.specs.List.{AllByRecursion}
 use Rattle.std.proofs.lemmas.Option.{same_Some, slice_get-map}
 use Rattle.slnf_access.specs.declared.requests.Entry.{Entry}

@@ -1,5 +1,5 @@
 -- The merged list of actors that have worked is a run, and its stamps are the clocks'.
-use Rattle.std.proofs.Common.{◌≡◌, ℕ, suc, ◌+◌, ◌<◌, ◌≤◌, ◌==◌, ◌%◌, nat_lt, max, Bool, List, [], ◌∷◌, ◌++◌, refl, sym, ap, ap₂, ◌∙◌, subst, inl, inr, arith, eq-eqb}
+use Rattle.std.proofs.Common.{◌≡◌, ℕ, suc, ◌+◌, ◌<◌, ◌≤◌, ◌==◌, ◌%◌, nat_lt, max, List, [], ◌∷◌, ◌++◌, refl, sym, ap, ap₂, ◌∙◌, subst, inl, inr, arith}
 use Rattle.std.specs.Prelude.{IsTrue}
 use Rattle.std.specs.List.{AllByRecursion}
 use Rattle.std.specs.List.Sorted.{IsPermutation}
@@ -34,7 +34,7 @@ use Rattle.slnf_run.proofs.RunOfGrown.{IsLooseRun}
 use Rattle.slnf_run.proofs.OwnParts.{loose_of_own}
 use Rattle.slnf_threads.specs.Worked.{IsWorked, HasWorked}
 use Rattle.slnf_threads.specs.Parts.{AreParts, ArePartsSoFar}
-use Rattle.slnf_threads.proofs.Members.{in_left, in_right, all_in, all_from, in_filtered, before_in}
+use Rattle.slnf_threads.proofs.Members.{in_left, in_right, all_in, all_from, before_in}
 use Rattle.slnf_threads.proofs.Histories.{shard_merged, same_split}
 use Rattle.slnf_threads.proofs.Told.{IsKeptAs, owner, to_list, told_below, told_within, stamped_at}
 use Rattle.slnf_threads.proofs.Rules.{own_run_of_worked, offering_of_worked}

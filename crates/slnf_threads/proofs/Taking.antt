@@ -1,5 +1,5 @@
 -- One reply more of several.
-use Rattle.std.proofs.Common.{◌≡◌, inl, inr, ℕ, zero, suc, ◌+◌, ◌<◌, ◌≤◌, Bool, true, false, Option, Some, None, List, [], ◌∷◌, ◌++◌, drop, get_or, length, slice_get, refl, sym, ap, ◌∙◌, subst, arith, append_assoc, append-nil, if◌then◌else◌, nat_le, eq-eqb, ne_eqb}
+use Rattle.std.proofs.Common.{◌≡◌, inl, inr, ℕ, suc, ◌+◌, ◌<◌, ◌≤◌, Bool, true, false, Option, Some, None, List, [], ◌∷◌, ◌++◌, drop, get_or, length, slice_get, refl, sym, ap, ◌∙◌, subst, arith, append_assoc, append-nil, if◌then◌else◌, nat_le, eq-eqb, ne_eqb}
 use Rattle.std.proofs.lemmas.Bool.Decides.{nat_tests}
 use Rattle.std.proofs.lemmas.List.{length_push, drop_more}
 use Rattle.std.proofs.Math.ListN.{drop_of_length-le}
@@ -8,10 +8,9 @@ use Rattle.slnf_access.specs.declared.requests.Ask.{Ask}
 use Rattle.slnf_access.specs.declared.requests.Reply.{Reply}
 use Rattle.slnf_access.specs.Map.{CanReply}
 use Rattle.slnf_run.specs.Jobs.{Job, by_rounds, is_stop, wanted_in}
-use Rattle.slnf_instance.specs.declared.errands.Errand.{Errand}
 use Rattle.slnf_instance.specs.Items.{Workload}
 use Rattle.slnf_instance.specs.Hands.{is_last, is_spent}
-use Rattle.slnf_instance.specs.Works.{IsLeftOf, AtWork, IsThrough, WasStopped, NeverBegan, Stands}
+use Rattle.slnf_instance.specs.Works.{IsLeftOf, Stands}
 use Rattle.slnf_instance.specs.Instances.{Acting, ask_by, StandsBy, CanAnswer, IsAnswer}
 use Rattle.slnf_threads.specs.Takes.{IsWithin, AreAnswers, CanTake}
 use Rattle.slnf_threads.specs.Worked.{IsWorked}

@@ -1,5 +1,5 @@
 -- What a turn at the store makes of an actor and its pass.
-use Rattle.std.proofs.Common.{◌≡◌, inl, inr, ℕ, zero, suc, ◌+◌, ◌-◌, ◌^◌, ◌<◌, ◌≤◌, ◌==◌, max, Bool, Option, Some, None, List, [], ◌∷◌, ◌++◌, length, map, take, drop, refl, sym, ap, ◌∙◌, subst, arith, append-nil, eq-eqb, if◌then◌else◌, take-append-drop}
+use Rattle.std.proofs.Common.{◌≡◌, inl, inr, ℕ, suc, ◌+◌, ◌-◌, ◌^◌, ◌<◌, ◌≤◌, ◌==◌, max, Option, Some, None, List, [], ◌∷◌, ◌++◌, length, map, take, drop, refl, sym, ap, ◌∙◌, subst, arith, append-nil, eq-eqb, take-append-drop}
 use Rattle.std.proofs.lemmas.Bool.{cases_lt, cond-true}
 use Rattle.std.proofs.lemmas.List.{length-map}
 use Rattle.std.proofs.lemmas.Nat.{mod_below}
@@ -14,7 +14,7 @@ use Rattle.slnf_turns.specs.declared.views.View.{View}
 use Rattle.slnf_turns.specs.Passes.{KeepsKin}
 use Rattle.slnf_store.specs.Accesses.{first_shard, entry_after, entries_after, MakesEntries, MakesAccess, MakesAccesses, RefusesAccesses}
 use Rattle.slnf_store.specs.Passes.{PassState, own_entries, last_seen}
-use Rattle.slnf_run.specs.Jobs.{Job, by_rounds, wanted_in}
+use Rattle.slnf_run.specs.Jobs.{by_rounds, wanted_in}
 use Rattle.slnf_instance.specs.Items.{Workload}
 use Rattle.slnf_instance.specs.Instances.{Acting, ask_by, StandsBy, IsAnswer}
 use Rattle.slnf_threads.specs.Reports.{job_by, KeepsLateStamp, IsRefused, Gains}

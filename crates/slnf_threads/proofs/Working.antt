@@ -1,5 +1,5 @@
 -- An actor's work, one turn after another.
-use Rattle.std.proofs.Common.{◌≡◌, ℕ, suc, ◌+◌, ◌-◌, ◌^◌, ◌<◌, ◌≤◌, min, Bool, true, false, Option, Some, None, List, [], ◌∷◌, ◌++◌, length, if◌then◌else◌, refl, sym, ap, ◌∙◌, subst, arith, append_assoc, append-nil, length-append}
+use Rattle.std.proofs.Common.{◌≡◌, ℕ, ◌+◌, ◌-◌, ◌^◌, ◌<◌, ◌≤◌, min, Bool, true, false, Option, Some, None, List, [], ◌∷◌, ◌++◌, length, if◌then◌else◌, refl, sym, ap, ◌∙◌, subst, arith, append_assoc, append-nil, length-append}
 use Rattle.std.specs.Prelude.{is_some, not}
 use Rattle.slnf_access.specs.declared.requests.Entry.{Entry}
 use Rattle.slnf_access.specs.declared.requests.Ask.{Ask}
@@ -13,7 +13,7 @@ use Rattle.slnf_instance.specs.Ends.{unstopped, ending_in}
 use Rattle.slnf_instance.specs.Hands.{is_spent}
 use Rattle.slnf_instance.specs.Items.{Workload}
 use Rattle.slnf_instance.specs.Works.{IsLeftOf}
-use Rattle.slnf_instance.specs.Instances.{Acting, ask_by, round_by, StandsBy}
+use Rattle.slnf_instance.specs.Instances.{Acting, round_by, StandsBy}
 use Rattle.slnf_threads.specs.Reports.{job_by, Gains}
 use Rattle.slnf_threads.specs.Takes.{IsWithin, IsWord, left_at}
 use Rattle.slnf_threads.specs.Worked.{IsWorked}

@@ -1,5 +1,5 @@
 -- one turn more
-use Rattle.std.proofs.Common.{◌≡◌, ◌≤◌, ◌+◌, None, length, sym, ap, ◌∙◌, subst, arith}
+use Rattle.std.proofs.Common.{◌≤◌, ◌+◌, length, sym, ap, ◌∙◌, subst}
 use Rattle.slnf_store.specs.Passes.{own_entries}
 use Rattle.slnf_instance.specs.declared.errands.Errand.{Errand}
 use Rattle.slnf_threads.specs.Reports.{job_by}

@@ -1,5 +1,5 @@
 -- what the pass's own list is so far
-use Rattle.std.proofs.Common.{◌≡◌, ◌≢◌, ◌^◌, ◌-◌, min, [], length}
+use Rattle.std.proofs.Common.{◌≡◌, ◌^◌, ◌-◌, min, [], length}
 use Rattle.slnf_bucket.specs.Bucket.{last_stamp}
 use Rattle.slnf_turns.specs.Passes.{KeepsKin}
 use Rattle.slnf_store.specs.Passes.{own_entries}

@@ -1,5 +1,5 @@
 -- so many are of the first one's shard
-use Rattle.std.proofs.Common.{◌≡◌, ◌≤◌, length, take}
+use Rattle.std.proofs.Common.{◌≡◌, ◌≤◌, take}
 use Rattle.slnf_store.specs.Accesses.{first_shard, AreInShard}
 use Rattle.slnf_threads.proofs.turns.front.Given as goal
 

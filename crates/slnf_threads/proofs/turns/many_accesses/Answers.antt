@@ -2,7 +2,6 @@
 use Rattle.std.proofs.Common.{◌≡◌, ◌≤◌, ◌<◌, [], length, take, sym, ap, ◌∙◌, subst, arith}
 use Rattle.std.proofs.lemmas.List.{length-take-le}
 use Rattle.std.proofs.lemmas.Result.{err_from_is_err_and}
-use Rattle.slnf_store.specs.Accesses.{first_shard}
 use Rattle.slnf_store.specs.Passes.{own_entries}
 use Rattle.slnf_store.specs.Stores.{shards_of}
 use Rattle.slnf_threads.specs.Reports.{job_by}

@@ -1,5 +1,5 @@
 -- the wanted access ends the pass's own list
-use Rattle.std.proofs.Common.{◌≡◌, [], refl, sym, ◌∙◌, arith}
+use Rattle.std.proofs.Common.{[], refl, arith}
 use Rattle.std.proofs.lemmas.Nat.{mod_below}
 use Rattle.std.proofs.lemmas.Result.{err_from_is_err_and}
 use Rattle.slnf_access.specs.Map.{key_of}

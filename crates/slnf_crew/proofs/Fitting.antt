@@ -1,5 +1,5 @@
--- No lane comes farther than its packets.
-use Rattle.std.proofs.Common.{◌≡◌, inl, inr, ℕ, ◌+◌, ◌-◌, ◌≤◌, if◌then◌else◌, List, [], ◌∷◌, length, slice_index, refl, ap, ◌∙◌, arith}
+-- No lane comes farther than its packets by the actors of one epoch.
+use Rattle.std.proofs.Common.{◌≡◌, ◌⊎◌, inl, inr, ℕ, suc, ◌+◌, ◌-◌, ◌≤◌, Bool, true, false, if◌then◌else◌, Some, List, [], ◌∷◌, length, slice_get, slice_index, refl, ap, ◌∙◌, arith}
 use Rattle.std.proofs.lemmas.Bool.{cond-true, cond-false}
 use Rattle.slnf_access.specs.declared.requests.Entry.{Entry}
 use Rattle.slnf_run.specs.Setting.{Actor, Setting, is_on}
@@ -7,7 +7,29 @@ use Rattle.slnf_run.specs.Parts.{part_of, at_lane, taken_on, taken_of, offers_of
 use Rattle.slnf_run.specs.OneBox.{HasLanesOnce}
 use Rattle.slnf_run.proofs.LanePosts.{at_of_lane}
 use Rattle.slnf_run.proofs.TakenRows.{taken_most}
-use Rattle.slnf_ledger.proofs.Apart.{NoneOn, none_on, rest_once, none_rest, not_so, either_way}
+
+-- none of these is on the lane
+abbrev NoneOn : ℕ → List Actor → Type 0
+NoneOn lane actors = (k : ℕ) (actor : Actor) → slice_get actors k ≡ Some actor → is_on lane actor ≡ true → ⊥
+
+-- the others aren't on the first one's lane
+none_on : (lane : ℕ) (actor : Actor) (actors : List Actor) → HasLanesOnce (actor ∷ actors) → is_on lane actor ≡ true →
+    NoneOn lane actors
+none_on lane actor actors once on k other at there =
+    let same : 0 ≡ suc k = once lane 0 (suc k) actor other refl at on there in omega arith
+
+-- and are apart themselves
+rest_once : (actor : Actor) (actors : List Actor) → HasLanesOnce (actor ∷ actors) → HasLanesOnce actors
+rest_once actor actors once lane i k a b at_a at_b on_a on_b =
+    let same : suc i ≡ suc k = once lane (suc i) (suc k) a b at_a at_b on_a on_b in omega arith
+
+not_so : (b : Bool) → (b ≡ true → ⊥) → b ≡ false
+not_so true h = absurd (h refl)
+not_so false h = refl
+
+either_way : (b : Bool) → (b ≡ true) ⊎ (b ≡ false)
+either_way true = inl refl
+either_way false = inr refl
 
 module _ {F A : Type 0} (s : Setting F A) (es : List Entry) (places : ℕ → ℕ) (lane : ℕ) where
   -- actors that aren't on the lane take nothing of it
@@ -19,7 +41,7 @@ module _ {F A : Type 0} (s : Setting F A) (es : List Entry) (places : ℕ → �
       (length (taken_of actor (part_of i es) (offers_of s i (at_lane places actor) actor))) 0
       (not_so (is_on lane actor) (none 0 actor refl)))
       ∙ (let rest : taken_on s es (i + 1) places lane actors ≡ 0 =
-      none_taken (i + 1) actors (none_rest lane actor actors none) in omega arith)
+      none_taken (i + 1) actors (λ k other at there. none (suc k) other at there) in omega arith)
 
   -- the one that is takes at most what is left
   pub taken_fits : (i : ℕ) (actors : List Actor) → HasLanesOnce actors →
