@@ -2,4 +2,4 @@ mod Agreement
 mod SameTexts
 mod Leavings
 mod Exactly
-mod Sizes
+pub mod Sizes

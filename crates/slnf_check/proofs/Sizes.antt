@@ -13,17 +13,17 @@ use Rattle.slnf_check.specs.declared.given.Given.{Given}
 use Rattle.slnf_check.specs.Given.{AreRead, AreGiven, AreSized}
 
 -- how many there are of a mapped list, and of a range
-length_map : {X Y : Type 0} (f : X → Y) (xs : List X) → length (map f xs) ≡ length xs
+pub length_map : {X Y : Type 0} (f : X → Y) (xs : List X) → length (map f xs) ≡ length xs
 length_map f [] = refl
 length_map f (x ∷ xs) = let q : length (map f xs) ≡ length xs = length_map f xs in omega arith
 
-length_range : (start count : ℕ) → length (range_with_len start count) ≡ count
+pub length_range : (start count : ℕ) → length (range_with_len start count) ≡ count
 length_range start zero = refl
 length_range start (suc count) =
     let q : length (range_with_len (start + 1) count) ≡ count = length_range (start + 1) count in omega arith
 
 -- and of the packets of a capture
-length_packets : (link : Link) (bytes : List ℕ) (packets : List Captured) →
+pub length_packets : (link : Link) (bytes : List ℕ) (packets : List Captured) →
     length (packets_in link bytes packets) ≡ length packets
 length_packets link bytes [] = refl
 length_packets link bytes (packet ∷ packets) =

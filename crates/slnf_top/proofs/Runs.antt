@@ -1,11 +1,9 @@
 -- A run has a verdict for each packet of each capture, and all that its outcome owes.
-use Rattle.std.proofs.Common.{◌≡◌, ◌+◌, ◌<◌, ◌^◌, ℕ, zero, suc, List, [], ◌∷◌, length, map, refl, ap, sym, ◌∙◌, subst, arith}
+use Rattle.std.proofs.Common.{◌≡◌, ◌+◌, ◌<◌, ◌^◌, ℕ, List, [], ◌∷◌, length, map, refl, ap, sym, ◌∙◌, subst}
 use Rattle.std.specs.Prelude.{Result, Ok, Err, IfOk}
 use Rattle.std.specs.List.{range_with_len}
-use Rattle.slnf_base.specs.declared.packets.Link.{Link}
 use Rattle.slnf_base.specs.declared.packets.Verdict.{Verdict}
 use Rattle.slnf_access.specs.declared.requests.Entry.{Entry}
-use Rattle.slnf_pcap.specs.declared.capture.Captured.{Captured}
 use Rattle.slnf_pcap.specs.declared.capture.Capture.{Capture}
 use Rattle.slnf_plan.specs.declared.plan.Plan.{Plan}
 use Rattle.slnf_run.specs.Setting.{Setting}
@@ -13,7 +11,7 @@ use Rattle.slnf_run.specs.Run.{IsRun}
 use Rattle.slnf_run.specs.Verdicts.{verdict_of, verdicts_from, verdicts_of, left_in}
 use Rattle.slnf_flight.specs.declared.lanes.Lane.{Lane}
 use Rattle.slnf_flight.specs.declared.outcomes.Outcome.{Outcome}
-use Rattle.slnf_flight.specs.Captures.{packets_in, packets_of}
+use Rattle.slnf_flight.specs.Captures.{packets_of}
 use Rattle.slnf_flight.specs.Lanes.{lane_sizes}
 use Rattle.slnf_flight.specs.PlanSetting.{setting_of}
 use Rattle.slnf_setting.specs.Bound.{IsBoundedFor}
@@ -24,44 +22,14 @@ use Rattle.slnf_setting.specs.Runs.{RunsWell}
 use Rattle.slnf_check.specs.declared.given.Given.{Given}
 use Rattle.slnf_top.specs.declared.outputs.File.{File}
 use Rattle.slnf_top.specs.Files.{Texts}
-use Rattle.slnf_check.specs.Given.{AreRead, AreGiven, AreSized}
+use Rattle.slnf_check.specs.Given.{AreRead, AreSized}
+use Rattle.slnf_check.proofs.Sizes.{length_map, length_range, length_packets, sized_from}
 use Rattle.slnf_top.specs.Written.{Order, IsInOrder, IsOutcome, IsRunOf}
 
--- how many there are of a mapped list, and of a range
-pub length_map : {X Y : Type 0} (f : X → Y) (xs : List X) → length (map f xs) ≡ length xs
-length_map f [] = refl
-length_map f (x ∷ xs) = let q : length (map f xs) ≡ length xs = length_map f xs in omega arith
-
-length_range : (start count : ℕ) → length (range_with_len start count) ≡ count
-length_range start zero = refl
-length_range start (suc count) =
-    let q : length (range_with_len (start + 1) count) ≡ count = length_range (start + 1) count in omega arith
-
--- and of the packets of a capture
-length_packets : (link : Link) (bytes : List ℕ) (packets : List Captured) →
-    length (packets_in link bytes packets) ≡ length packets
-length_packets link bytes [] = refl
-length_packets link bytes (packet ∷ packets) =
-    let q : length (packets_in link bytes packets) ≡ length packets = length_packets link bytes packets in omega arith
-
+-- there are as many packets of a capture
 pub length_packets_of : (bytes : List ℕ) (capture : Capture) →
     length (packets_of bytes capture) ≡ length capture.packets
 length_packets_of bytes capture = length_packets capture.link bytes capture.packets
-
--- there are as many lanes as captures
-pub read_length : (given : List Given) (lanes : List Lane) → AreRead given lanes → length given ≡ length lanes
-read_length [] [] h = refl
-read_length [] (lane ∷ lanes) h = absurd h
-read_length (g ∷ given) [] h = absurd h
-read_length (g ∷ given) (lane ∷ lanes) h =
-    let q : length given ≡ length lanes = read_length given lanes h.1 in omega arith
-
--- each capture is whole
-pub read_given : (given : List Given) (lanes : List Lane) → AreRead given lanes → AreGiven given
-read_given [] [] h = tt
-read_given [] (lane ∷ lanes) h = absurd h
-read_given (g ∷ given) [] h = absurd h
-read_given (g ∷ given) (lane ∷ lanes) h = (h.0.whole, read_given given lanes h.1)
 
 module _ {F A : Type 0} (s : Setting F A) (j : List Entry) where
   length_verdicts : (lane count : ℕ) → length (map (verdict_of s j lane) (range_with_len 0 count)) ≡ count
@@ -76,17 +44,7 @@ module _ {F A : Type 0} (s : Setting F A) (j : List Entry) where
       (length_verdicts lane count)
       ∙ ap (λ (ns : List ℕ). count ∷ ns) (sizes (lane + 1) counts)
 
-  -- each capture has a verdict for each packet
-  sized_from : (first : ℕ) (given : List Given) (lanes : List Lane) → AreRead given lanes →
-      AreSized given (verdicts_from s j first (lane_sizes lanes))
-  sized_from first [] [] h = tt
-  sized_from first [] (lane ∷ lanes) h = absurd h
-  sized_from first (g ∷ given) [] h = absurd h
-  sized_from first (g ∷ given) (lane ∷ lanes) h = (
-    length_verdicts first (length lane.packets) ∙ ap length h.0.views ∙ length_packets_of g.bytes g.capture,
-    sized_from (first + 1) given lanes h.1,
-  )
-
+-- each capture has a verdict for each packet
 pub sized : (order : Order) (plan : Plan) (given : List Given) (lanes : List Lane) (outcome : Outcome) →
     AreRead given lanes → IsOutcome order plan lanes outcome → AreSized given outcome.verdicts
 sized order plan given lanes outcome read is =

@@ -24,7 +24,8 @@ use Rattle.slnf_top.specs.Written.{Order, BySchedule, SideBySide, IsOutcome, IsR
 use Rattle.slnf_top.specs.Outcome.{Ended}
 use Rattle.slnf_top.proofs.Apart.{AreApart, files_apart, named_output}
 use Rattle.slnf_top.proofs.Ending.{WritesRun, refused_inputs, wanting_behind, stopped_at, all_written}
-use Rattle.slnf_top.proofs.Runs.{length_map, read_length, sized}
+use Rattle.slnf_check.proofs.Sizes.{length_map, as_many}
+use Rattle.slnf_top.proofs.Runs.{sized}
 
 -- captures by their names
 pub names_are : (names : List (List ℕ)) → map name_of (captures_in names) ≡ names
@@ -87,7 +88,7 @@ module _ {X : Type 0} (view : X → List ℕ) (named : List X) (plan : List ℕ)
   few_lanes lanes same =
       let given : length inputs.captures.given ≤ 32 = few_given in
       let both : length inputs.captures.given ≡ length inputs.captures.lanes =
-      read_length inputs.captures.given inputs.captures.lanes are.are_read in
+      as_many inputs.captures.given inputs.captures.lanes are.are_read in
       let all : length lanes ≡ length inputs.captures.lanes = ap length same in
       omega arith
 

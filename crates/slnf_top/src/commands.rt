@@ -41,7 +41,7 @@ pub fn top<R: Threads + Wait + Sync, S: Shelf, G: Gate + Sync>(
     shelf: &mut S,
     gate: &G,
 ) -> Status
-    ensures { IsServed (command_of (map string_bytes words.now)) result
+    ensures served { IsServed (command_of (map string_bytes words.now)) result
         (S.faults shelf.old) (S.faults shelf.new) (S.holds shelf.old) (S.holds shelf.new) }
 {
     match run_words(words) {
@@ -68,7 +68,7 @@ pub fn top_plain<S: Shelf>(
     words: &[String],
     shelf: &mut S,
 ) -> Status
-    ensures { IsServed (plain_command_of (map string_bytes words.now)) result
+    ensures served { IsServed (plain_command_of (map string_bytes words.now)) result
         (S.faults shelf.old) (S.faults shelf.new) (S.holds shelf.old) (S.holds shelf.new) }
 {
     // The laws by which an answer is exact.

@@ -2,7 +2,7 @@ use Rattle.std.specs.Prelude.{string_bytes}
 use Rattle.std.proofs.lemmas.Result.{err_from_is_err_and}
 use Rattle.slnf_top.specs.Words.{plan_named}
 use Rattle.slnf_top.specs.Written.{BySchedule}
-use Rattle.slnf_top.proofs.Runs.{read_given}
+use Rattle.slnf_check.proofs.Sizes.{are_given}
 use Rattle.slnf_top.proofs.Stepping.{few_given, few_lanes, outcome_by, sized_by, were_read, refused_in, wanting_in}
 use Rattle.slnf_top.proofs.commands.step.Goals as goal
 
@@ -21,7 +21,7 @@ write_run-requires-clause-few g c =
 pub write_run-requires-clause-given : goal.write_run-requires-clause-given
 write_run-requires-clause-given g c =
     let captures = c.in_ok-inputs.inputs.captures in
-    read_given captures.given captures.lanes c.in_ok-inputs.ensures.read.are_read
+    are_given captures.given captures.lanes c.in_ok-inputs.ensures.read.are_read
 
 pub write_run-requires-clause-sized : goal.write_run-requires-clause-sized
 write_run-requires-clause-sized g c =

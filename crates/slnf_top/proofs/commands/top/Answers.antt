@@ -13,8 +13,10 @@ returns-in-None g c =
     let b = g.S.Shelf.faults c.top_plain.new.shelf in
     let held = g.S.Shelf.holds c.args.shelf.now in
     let holds = g.S.Shelf.holds c.top_plain.new.shelf in
-    subst (λ (asked : Option Command). IsServed asked c.top_plain.result a b held holds)
-    (sym (c.run_words.ensures.plain c.in-None.is)) c.top_plain.ensures
+    record {
+      served = subst (λ (asked : Option Command). IsServed asked c.top_plain.result a b held holds)
+          (sym (c.run_words.ensures.plain c.in-None.is)) c.top_plain.ensures.served;
+    }
 
 pub returns-in-Some : goal.returns-in-Some
 returns-in-Some g c =
@@ -23,7 +25,9 @@ returns-in-Some g c =
     let held = g.S.Shelf.holds c.args.shelf.now in
     let holds = g.S.Shelf.holds c.run.new.shelf in
     let found = Run (plan_named c.in-Some.words) in
-    served (command_of (map string_bytes c.args.words.now)) found c.status_of.result a b held holds
-    c.in-Some.ensures.run
-    (subst (λ (ended : Status). Ended found ended a b held holds) (sym c.status_of.ensures) c.run.ensures)
-    (λ judged. tt)
+    record {
+      served = served (command_of (map string_bytes c.args.words.now)) found c.status_of.result a b held holds
+          c.in-Some.ensures.run
+          (subst (λ (ended : Status). Ended found ended a b held holds) (sym c.status_of.ensures) c.run.ensures)
+          (λ judged. tt);
+    }

@@ -2,7 +2,7 @@ use Rattle.std.proofs.Common.{◌≡◌, length, map, arith}
 use Rattle.std.specs.Prelude.{string_bytes}
 use Rattle.std.proofs.lemmas.Result.{err_from_is_err_and}
 use Rattle.slnf_top.specs.Names.{capture_names}
-use Rattle.slnf_top.proofs.Runs.{length_map}
+use Rattle.slnf_check.proofs.Sizes.{length_map}
 use Rattle.slnf_top.proofs.RunFiles.{outputs_start, stopped_in, wanting_in, next_in, outputs_passed, outputs_told}
 use Rattle.slnf_top.proofs.products.read_outputs.Goals as goal
 

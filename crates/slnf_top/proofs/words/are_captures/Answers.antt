@@ -1,6 +1,6 @@
 use Rattle.std.proofs.Common.{◌≡◌, ◌≤◌, length, map, arith}
 use Rattle.std.specs.Prelude.{string_bytes}
-use Rattle.slnf_top.proofs.Runs.{length_map}
+use Rattle.slnf_check.proofs.Sizes.{length_map}
 use Rattle.slnf_top.proofs.Passing.{are_captures_is}
 use Rattle.slnf_top.proofs.words.are_captures.Goals as goal
 
