@@ -4,6 +4,7 @@
 mod crews;
 mod epochs;
 mod journals;
+mod parted;
 mod plans;
 mod reports;
 mod takes;
@@ -11,6 +12,7 @@ mod theorems;
 mod turns;
 
 pub use epochs::run_epoch;
+pub use parted::PartedOutcome;
 pub use plans::run_plan;
 pub use reports::{Desk, Report};
 pub use theorems::parts_are_runs;

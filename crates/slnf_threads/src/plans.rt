@@ -15,9 +15,10 @@ ghost use Rattle.slnf_threads.specs.UnderWay.{IsUnderWay, IsStuck, HaveAllPassed
 
 use crate::crews::{gather, seat, side_by_side};
 use crate::journals::journal_of;
-use slnf_base::{NoMemory, Row};
+use crate::parted::PartedOutcome;
+use slnf_base::NoMemory;
 use slnf_crew::{actors_have_jobs, epoch_of, items_of};
-use slnf_flight::{AnyFunction, Lane, Outcome};
+use slnf_flight::{AnyFunction, Lane};
 use slnf_ledger::{Ledger, add_works, left_in};
 use slnf_plan::Plan;
 use slnf_setting::know_types;
@@ -119,8 +120,17 @@ fn pass_epochs<R: Threads + Wait + Sync, G: Gate + Sync>(
     Ok(true)
 }
 
+/// The most instances of an epoch.
+fn most_instances(plan: &Plan) -> usize {
+    let mut most = 1;
+    for epoch in plan.epochs.as_slice() {
+        most = most.max(epoch.instances.len());
+    }
+    most
+}
+
 /// Runs the plan over its lanes: the actors of each epoch work side by side on one shared store, each in a thread of its
-/// own, or one after another where no thread can be made. No clause says that it returns. The shards' maps are hashed with
+/// own, or one after another where no thread can be made; as many threads as an epoch has instances merge the journal. No clause says that it returns. The shards' maps are hashed with
 /// this state, which no clause speaks of.
 pub fn run_plan<R: Threads + Wait + Sync, G: Gate + Sync>(
     rt: &R,
@@ -129,7 +139,7 @@ pub fn run_plan<R: Threads + Wait + Sync, G: Gate + Sync>(
     plan: &Plan,
     lanes: &[Lane],
     gate: &G,
-) -> Result<Outcome, NoMemory>
+) -> Result<PartedOutcome, NoMemory>
     requires few_lanes { length lanes.now ≤ 32 }
     requires few_packets { packet_count lanes.now ≤ 1048576 }
     // The journal is a run of the plan's setting, with the stamps of its clocks.
@@ -152,14 +162,14 @@ pub fn run_plan<R: Threads + Wait + Sync, G: Gate + Sync>(
     know_types(plan);
     let mut run = Run::make(alloc, state, plan)?;
     let passed = pass_epochs(rt, alloc, plan, lanes, gate, &mut run)?;
-    let journal = journal_of(alloc, run.store, run.root)?;
+    let journal = journal_of(rt, alloc, run.store, run.root, most_instances(plan))?;
     if !passed {
         unreachable!();
     }
     let verdicts = run.ledger.fill(alloc, lanes)?;
     let left = left_in(verdicts.as_slice());
-    Ok(Outcome {
-        journal: Row::from_vec(journal),
+    Ok(PartedOutcome {
+        journal,
         verdicts,
         left,
     })

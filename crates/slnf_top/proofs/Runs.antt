@@ -24,7 +24,7 @@ use Rattle.slnf_top.specs.declared.outputs.File.{File}
 use Rattle.slnf_top.specs.Files.{Texts}
 use Rattle.slnf_check.specs.Given.{AreRead, AreSized}
 use Rattle.slnf_check.proofs.Sizes.{length_map, length_range, length_packets, sized_from}
-use Rattle.slnf_top.specs.Written.{Order, IsInOrder, IsOutcome, IsRunOf}
+use Rattle.slnf_top.specs.Written.{Order, IsInOrder, IsExplained, IsOutcome, IsRunOf}
 
 -- there are as many packets of a capture
 pub length_packets_of : (bytes : List ℕ) (capture : Capture) →
@@ -82,6 +82,17 @@ outcome_if_ok order plan lanes (Ok o) in_order run one_box pairs none_ill bounde
   left = left;
 }
 outcome_if_ok order plan lanes (Err e) in_order run one_box pairs none_ill bounded few well verdicts left = tt
+
+-- what an outcome owes is owed by one with the same fields
+pub same_if_ok : {E : Type 0} (order : Order) (plan : Plan) (lanes : List Lane) (r : Result Outcome E) (o : Outcome) →
+    IfOk r (λ p. p.journal ≡ o.journal) → IfOk r (λ p. p.verdicts ≡ o.verdicts) → IfOk r (λ p. p.left ≡ o.left) →
+    IsOutcome order plan lanes o → IfOk r (IsOutcome order plan lanes)
+same_if_ok order plan lanes (Ok p) o journal verdicts left h = record {
+  explained = subst (IsExplained order plan lanes) (sym journal) h.explained;
+  verdicts = verdicts ∙ (h.verdicts ∙ ap (verdicts_of (setting_of plan lanes)) (sym journal));
+  left = left ∙ (h.left ∙ ap left_in (sym verdicts));
+}
+same_if_ok order plan lanes (Err e) o journal verdicts left h = tt
 
 -- the files of an outcome are those of its run
 pub is_run_of : (order : Order) (texts : Texts) (plan : Plan) (given : List Given) (lanes : List Lane) (outcome : Outcome)

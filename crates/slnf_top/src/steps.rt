@@ -53,7 +53,7 @@ pub fn outcome_side_by_side<R: Threads + Wait + Sync, G: Gate + Sync>(
     requires few_packets { packet_count lanes.now ≤ 1048576 }
     ensures { IfOk result (IsOutcome SideBySide plan.now lanes.now) }
 {
-    run_plan(rt, alloc, state, plan, lanes, gate)
+    run_plan(rt, alloc, state, plan, lanes, gate)?.joined(alloc)
 }
 
 /// The files of the run that has this outcome, and how many packets it leaves.

@@ -155,7 +155,7 @@ fn run_and_check<R: Threads + Wait + Sync>(
     let third = read_lane(alloc, third)?;
     let fourth = read_lane(alloc, fourth)?;
     let lanes = [first.lane, second.lane, third.lane, fourth.lane];
-    let outcome = run_plan(rt, alloc, state, plan, &lanes, &NoGate)?;
+    let outcome = run_plan(rt, alloc, state, plan, &lanes, &NoGate)?.joined(alloc)?;
     let outputs = outputs_of(
         alloc,
         &first.given,

@@ -32,7 +32,8 @@ fn run<R: Threads + Wait + Sync, G: Gate + Sync>(
 ) -> Result<Outcome, Fail> {
     let plan = plan_of(alloc, BALANCER, epochs)?;
     let lanes = lanes_of(alloc, lanes)?;
-    Ok(run_plan(rt, alloc, state, &plan, lanes.as_slice(), gate)?)
+    let outcome = run_plan(rt, alloc, state, &plan, lanes.as_slice(), gate)?;
+    Ok(outcome.joined(alloc)?)
 }
 
 /// A gate that holds instances apart, in holds of so many loads.

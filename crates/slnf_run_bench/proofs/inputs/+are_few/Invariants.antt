@@ -1,5 +1,4 @@
-use Rattle.std.proofs.Common.{◌≡◌, nat_le, ℕ, ◌+◌, ◌-◌, ◌*◌, ◌<◌, ◌≤◌, length}
-use Rattle.slnf_flight.specs.Lanes.{packet_count}
+use Rattle.std.proofs.Common.{length}
 use Rattle.slnf_run_bench.proofs.inputs.+are_few.Given as goal
 
 -- the lanes that are left

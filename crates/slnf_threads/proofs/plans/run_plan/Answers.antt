@@ -1,8 +1,6 @@
 -- the epochs have passed, and their journal is a run of the plan
-use Rattle.std.proofs.Common.{◌≡◌, ◌<◌, ◌^◌, sym, ap, ◌∙◌, subst, arith}
-use Rattle.slnf_run.specs.Stamps.{HasClockStamps}
-use Rattle.slnf_run.specs.Verdicts.{verdicts_of, left_in}
-use Rattle.slnf_flight.specs.PlanSetting.{setting_of}
+use Rattle.std.proofs.Common.{◌<◌, ◌^◌, sym, ap, ◌∙◌, subst, arith}
+use Rattle.slnf_run.specs.Verdicts.{left_in}
 use Rattle.slnf_setting.specs.Runs.{IsRunOfPlan}
 use Rattle.slnf_ledger.proofs.Filled.{left_few}
 use Rattle.slnf_threads.proofs.Outcomes.{told_at_end, verdicts_at_end, never_spent}
@@ -11,7 +9,7 @@ use Rattle.slnf_threads.proofs.plans.run_plan.Goals as goal
 pub unreachable-requires : goal.unreachable-requires
 unreachable-requires g c =
     never_spent c.args.plan.now c.args.lanes.now c.know_types.ensures c.requires.few_packets c.pass_epochs.new.run
-    c.in_ok-journal.journal.items c.in_ok-journal.ensures (c.in_ok-passed.ensures.stuck c.if-not-passed.true)
+    c.in_ok-journal.journal c.in_ok-journal.ensures (c.in_ok-passed.ensures.stuck c.if-not-passed.true)
 
 pub fill-requires : goal.fill-requires
 fill-requires g c =
@@ -28,13 +26,12 @@ pub returns : goal.returns
 returns g c =
     let plan = c.args.plan.now in
     let lanes = c.args.lanes.now in
-    let journal = c.in_ok-journal.journal.items in
-    let whole : c.from_vec.result ≡ journal = c.from_vec.ensures in
+    let journal = c.in_ok-journal.journal in
     let told = told_at_end plan lanes c.know_types.ensures c.requires.few_packets c.pass_epochs.new.run journal
     c.in_ok-journal.ensures (c.in_ok-passed.ensures.passed c.if-not-passed.false) in
-    let run : IsRunOfPlan plan lanes c.from_vec.result = subst (IsRunOfPlan plan lanes) (sym whole) told.0 in
+    let run : IsRunOfPlan plan lanes journal = told.0 in
     record {
-      stamps = subst (HasClockStamps (setting_of plan lanes)) (sym whole) told.1;
+      stamps = told.1;
       run = run.run;
       one_box = run.one_box;
       pairs = run.pairs;
@@ -43,8 +40,7 @@ returns g c =
       few = run.few;
       well = run.well;
       verdicts = c.in_ok-verdicts.ensures
-          ∙ (verdicts_at_end plan lanes c.know_types.ensures c.requires.few_packets c.pass_epochs.new.run journal
-          c.in_ok-journal.ensures (c.in_ok-passed.ensures.passed c.if-not-passed.false)
-          ∙ ap (verdicts_of (setting_of plan lanes)) (sym whole));
+          ∙ verdicts_at_end plan lanes c.know_types.ensures c.requires.few_packets c.pass_epochs.new.run journal
+          c.in_ok-journal.ensures (c.in_ok-passed.ensures.passed c.if-not-passed.false);
       left = c.left_in-left.ensures ∙ ap left_in c.as_slice.ensures;
     }
